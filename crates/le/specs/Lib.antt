@@ -1,0 +1,5 @@
+pub mod Number
+pub mod NumberLaws
+pub mod WordsLaws
+pub mod Arena
+pub mod ArenaLaws

@@ -1,0 +1,145 @@
+-- The machine computes: worked examples of document 01 and of the open points, each one theorem by computation. Assumes nothing.
+use mathlib.Core.Path.{_≡_, refl}
+use mathlib.Core.Bool.{Bool, true, false}
+use mathlib.Core.List.{List, [], _∷_, _++_}
+use Prim.Native.Nat.{ℕ}
+use lib.ListN.{length, getD, replicate}
+use Rattle.sizes.specs.Limits.{none64}
+use Rattle.machine.specs.Heap.{cache, fast, bin}
+use Rattle.machine.specs.Writes.{apply}
+use Rattle.machine.proofs.Script.{Line, G, R, S, script, scriptBytes, outOf, recordOut, arenaOut, outs, heapAfter, writesAfter, same?}
+
+-- document 01's heaplog example, line by line, on bytes: number, mem, usable and top for A 256 and each line after it
+example : List Line
+example = G 24 ∷ G 25 ∷ R 16 ∷ R 16 ∷ G 0 ∷ G 200 ∷ R 48 ∷ R 16 ∷ S ∷ G 200 ∷ []
+
+heaplog-example : same? (outOf (scriptBytes 170 256 example))
+    (0 ∷ 0 ∷ 0 ∷ 0 ∷
+    0 ∷ 16 ∷ 24 ∷ 32 ∷
+    0 ∷ 48 ∷ 40 ∷ 80 ∷
+    0 ∷ 0 ∷ 0 ∷ 80 ∷
+    4 ∷ 0 ∷ 0 ∷ 80 ∷
+    0 ∷ 16 ∷ 24 ∷ 80 ∷
+    5 ∷ 0 ∷ 0 ∷ 80 ∷
+    0 ∷ 0 ∷ 0 ∷ 80 ∷
+    0 ∷ 0 ∷ 0 ∷ 80 ∷
+    0 ∷ 0 ∷ 0 ∷ 0 ∷
+    0 ∷ 16 ∷ 200 ∷ 208 ∷ []) ≡ true
+unfolding example scriptBytes
+heaplog-example = refl
+
+-- after its settle no block is held: the record is that of a newly opened arena, byte for byte, though the arena's bytes are not
+settled-record : same? (recordOut (scriptBytes 170 256 (G 24 ∷ G 25 ∷ R 48 ∷ R 16 ∷ S ∷ []))) (recordOut (scriptBytes 7 256 [])) ≡ true
+unfolding scriptBytes
+settled-record = refl
+
+-- arena 32 opens but grants nothing; null is released, the top's mem is not
+least-arena : same? (outOf (scriptBytes 255 32 (G 0 ∷ R 0 ∷ R 16 ∷ S ∷ [])))
+    (0 ∷ 0 ∷ 0 ∷ 0 ∷
+    5 ∷ 0 ∷ 0 ∷ 0 ∷
+    0 ∷ 0 ∷ 0 ∷ 0 ∷
+    4 ∷ 0 ∷ 0 ∷ 0 ∷
+    0 ∷ 0 ∷ 0 ∷ 0 ∷ []) ≡ true
+unfolding scriptBytes
+least-arena = refl
+
+-- an arena of 16 bytes is refused with 1, and every later call on it; the record is left with top none, so that its top reads 4,294,967,295
+refused-open : same? (outOf (scriptBytes 9 16 (G 0 ∷ [])))
+    (1 ∷ 0 ∷ 0 ∷ 4294967295 ∷
+    1 ∷ 0 ∷ 0 ∷ 4294967295 ∷ []) ≡ true
+unfolding scriptBytes
+refused-open = refl
+
+-- a request above 262,144 is refused with 2, 262,144 itself with 5
+large-requests : same? (outOf (scriptBytes 0 64 (G 262145 ∷ G 262144 ∷ G 18446744073709551615 ∷ [])))
+    (0 ∷ 0 ∷ 0 ∷ 0 ∷
+    2 ∷ 0 ∷ 0 ∷ 0 ∷
+    5 ∷ 0 ∷ 0 ∷ 0 ∷
+    2 ∷ 0 ∷ 0 ∷ 0 ∷ []) ≡ true
+unfolding scriptBytes
+large-requests = refl
+
+-- open writes bytes 8 to 15 only
+open-writes : same? (arenaOut (scriptBytes 170 32 [])) (replicate 8 170 ++ (33 ∷ replicate 7 0) ++ replicate 16 170) ≡ true
+unfolding scriptBytes
+open-writes = refl
+
+-- eight live 32-byte chunks released: seven cached, the eighth on fast list 0
+lists-of : (ℕ → List ℕ) → List ℕ → List ℕ
+lists-of f [] = []
+lists-of f (k ∷ ks) = length (f k) ∷ f k ++ lists-of f ks
+
+eight : List Line
+eight = G 24 ∷ G 24 ∷ G 24 ∷ G 24 ∷ G 24 ∷ G 24 ∷ G 24 ∷ G 24 ∷ G 24 ∷ R 16 ∷ R 48 ∷ R 80 ∷ R 112 ∷ R 144 ∷ R 176 ∷ R 208 ∷ R 240 ∷ []
+
+eight-released : same? (cache (heapAfter (script 1024 eight)) 0 ++ fast (heapAfter (script 1024 eight)) 0)
+    (192 ∷ 160 ∷ 128 ∷ 96 ∷ 64 ∷ 32 ∷ 0 ∷ 224 ∷ []) ≡ true
+unfolding script eight
+eight-released = refl
+
+-- the last remainder at exactly b+32: of size 96 and b 64 it goes to bin 6, and the chunk of bin 5 is taken whole
+last-remainder : same? (outs (script 8192 (G 1112 ∷ G 24 ∷ G 1112 ∷ G 24 ∷ R 16 ∷ G 1032 ∷ R 1168 ∷ G 872 ∷ G 136 ∷ G 56 ∷ [])))
+    (0 ∷ 16 ∷ 1112 ∷ 1120 ∷
+    0 ∷ 1136 ∷ 24 ∷ 1152 ∷
+    0 ∷ 1168 ∷ 1112 ∷ 2272 ∷
+    0 ∷ 2288 ∷ 24 ∷ 2304 ∷
+    0 ∷ 0 ∷ 0 ∷ 2304 ∷
+    0 ∷ 16 ∷ 1032 ∷ 2304 ∷
+    0 ∷ 0 ∷ 0 ∷ 2304 ∷
+    0 ∷ 1168 ∷ 872 ∷ 2304 ∷
+    0 ∷ 2048 ∷ 136 ∷ 2304 ∷
+    0 ∷ 1056 ∷ 72 ∷ 2304 ∷ []) ≡ true
+unfolding script
+last-remainder = refl
+
+-- three equal large chunks are sorted, the newcomer second among its equals; the second of them is taken
+equals : List Line
+equals = G 1112 ∷ G 24 ∷ G 1112 ∷ G 24 ∷ G 1112 ∷ G 24 ∷ R 16 ∷ R 1168 ∷ R 2320 ∷ []
+
+sorted-equals : same? (bin (heapAfter (script 8192 (equals ++ G 6000 ∷ []))) 65) (0 ∷ 2304 ∷ 1152 ∷ []) ≡ true
+unfolding script equals
+sorted-equals = refl
+
+second-of-equals : same? (bin (heapAfter (script 8192 (equals ++ G 1096 ∷ []))) 65) (0 ∷ 1152 ∷ []) ≡ true
+unfolding script equals
+second-of-equals = refl
+
+-- a refused grant leaves the sorting: unsorted is empty, the chunk stands in its bin
+refused-sorts : same? (lists-of (bin (heapAfter (script 4096 (G 1112 ∷ G 24 ∷ R 16 ∷ G 5000 ∷ [])))) (1 ∷ 65 ∷ [])) (0 ∷ 1 ∷ 0 ∷ []) ≡ true
+unfolding script lists-of
+refused-sorts = refl
+
+-- the last remainder is split while one chunk is cached: that one stays cached (cache list 11), and the block comes from the remainder
+G8 : List Line
+G8 = G 200 ∷ G 200 ∷ G 200 ∷ G 200 ∷ G 200 ∷ G 200 ∷ G 200 ∷ G 200 ∷ []
+
+splitting : List Line
+splitting = G8 ++ G 24 ∷ G 1500 ∷ G 1200 ∷ G 24 ∷ R 1712 ∷ R 16 ∷ R 224 ∷ R 432 ∷ R 640 ∷ R 848 ∷ R 1056 ∷ R 1264 ∷ G 300 ∷ R 1472 ∷ R 3232 ∷ G8
+
+last-line : List ℕ → List ℕ
+last-line [] = []
+last-line (x ∷ []) = []
+last-line (x ∷ y ∷ []) = []
+last-line (x ∷ y ∷ z ∷ []) = []
+last-line (x ∷ y ∷ z ∷ t ∷ []) = x ∷ y ∷ z ∷ t ∷ []
+last-line (x ∷ y ∷ z ∷ t ∷ u ∷ l) = last-line (y ∷ z ∷ t ∷ u ∷ l)
+
+split-while-cached : same? (cache (heapAfter (script 8192 splitting)) 11 ++ last-line (outs (script 8192 splitting))) (1456 ∷ 0 ∷ 2032 ∷ 200 ∷ 4464 ∷ []) ≡ true
+unfolding script splitting G8 last-line
+split-while-cached = refl
+
+-- step 9's return to 5: two fast chunks behind seven cached ones, and a short top; the grant is served after they are joined
+returning : List Line
+returning = eight ++ R 272 ∷ G 700 ∷ []
+
+returns-to-5 : same? (last-line (outs (script 1024 returning))) (0 ∷ 240 ∷ 712 ∷ 944 ∷ []) ≡ true
+unfolding script returning eight last-line
+returns-to-5 = refl
+
+-- a join takes out the chunk before, then the one after, whose forward link the first unlink has made none: that stays in the whole
+joined : List Line
+joined = G 1112 ∷ G 1112 ∷ G 1112 ∷ G 24 ∷ R 16 ∷ R 2256 ∷ R 1136 ∷ []
+
+join-order : same? (bin (heapAfter (script 8192 joined)) 1 ++ getD (apply (writesAfter (script 8192 joined)) (replicate 1024 0)) 282 0 ∷ []) (0 ∷ none64 ∷ []) ≡ true
+unfolding script joined
+join-order = refl

@@ -1,0 +1,10 @@
+pub mod Lists
+pub mod Count
+pub mod Heap
+pub mod Writes
+pub mod Primitives
+pub mod Release
+pub mod Grant
+pub mod View
+pub mod Audit
+pub mod Calls

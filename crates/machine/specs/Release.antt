@@ -1,0 +1,92 @@
+-- Release, join, consolidate and settle, in document 01's words and order. Definitions only.
+use mathlib.Core.List.{List, [], _∷_, _++_}
+use mathlib.Core.Bool.{Bool, true, false}
+use Prim.Native.Nat.{ℕ, zero, suc, _+_, _-_}
+use lib.Dec.{eqb, ltb, leb}
+use lib.ListN.{length}
+use Rattle.sizes.specs.Limits.{none32, mostCached, cacheRoom, cacheLists, mostFast, fastLists, unsorted}
+use Rattle.sizes.specs.Sizes.{cacheOf, fastOf}
+use Rattle.machine.specs.Lists.{both}
+use Rattle.machine.specs.Heap.{Heap, stack, cache, fastAt, binned, binHas, topOf, sizeOf, pOf, next, before}
+use Rattle.machine.specs.Writes.{Ran, ran, does, giving, more, _>>=_}
+use Rattle.machine.specs.Primitives.{push, pop, pushCache, putFirst, unlink, swallow, clearP, toTop, setRemainder}
+
+-- x leaves its bin, and c takes in the chunk after it
+unfoldable pub absorb : ℕ → ℕ → Heap → Ran (Unit {0})
+absorb x c h = do
+  h ← unlink (binHas h x) x h
+  swallow c h
+
+-- with the chunk after if it is binned
+unfoldable pub joinNext : ℕ → Heap → Ran (Unit {0})
+joinNext c h = elim (eqb (binned h (next h c)) 0) [ true ↦ does h [] | false ↦ absorb (next h c) c h ]
+
+-- touching the top, the whole becomes top; otherwise clear the next P, write the end size, and go first in unsorted. Answers the whole's size
+unfoldable pub putDown : ℕ → Heap → Ran ℕ
+putDown c h = elim (eqb (next h c) (topOf h)) [
+  | true ↦ giving (h .len - c) (toTop c h)
+  | false ↦ giving (sizeOf h c) do
+    h ← clearP (next h c) (sizeOf h c) h
+    putFirst unsorted c h
+]
+
+-- join: with the chunk before if P is clear, then with the chunk after. A whole's size word is written, P set, with each chunk taken in;
+-- where none is, the chunk's own has P set already
+unfoldable pub join : ℕ → Heap → Ran ℕ
+join c h = elim (eqb (pOf h c) 0) [
+  | true ↦ do
+    h₁ ← absorb (before h c) (before h c) h
+    h₂ ← joinNext (before h c) h₁
+    putDown (before h c) h₂
+  | false ↦ do
+    h₁ ← joinNext c h
+    putDown c h₁
+]
+
+-- past the cache: up to 128 on the fast list, else join. Answers the size that the joining yields, 0 where none is joined
+unfoldable pub releasePast : ℕ → Heap → Ran ℕ
+releasePast c h = elim (leb (sizeOf h c) mostFast) [
+  | true ↦ giving 0 (push (fastAt (fastOf (sizeOf h c))) c h)
+  | false ↦ join c h
+]
+
+-- size up to 1,040 and its cache list under 7: push; else past the cache
+unfoldable pub release : ℕ → Heap → Ran ℕ
+release c h = elim (both (leb (sizeOf h c) mostCached) (ltb (length (cache h (cacheOf (sizeOf h c)))) cacheRoom)) [
+  | true ↦ giving 0 (pushCache (cacheOf (sizeOf h c)) c h)
+  | false ↦ releasePast c h
+]
+
+-- stack k, whose chunks are l, from its head: take the chunk out, and do f with it
+unfoldable pub drain : (ℕ → Heap → Ran ℕ) → ℕ → List ℕ → Heap → Ran (Unit {0})
+drain f k [] h = does h []
+drain f k (c ∷ l) h = do
+  h ← pop k h
+  h ← f c h
+  drain f k l h
+
+-- n stacks, from number k on
+unfoldable pub drains : (ℕ → Heap → Ran ℕ) → ℕ → ℕ → Heap → Ran (Unit {0})
+drains f zero k h = does h []
+drains f (suc n) k h = do
+  h ← drain f k (stack h k) h
+  drains f n (suc k) h
+
+-- consolidate: fast lists 0 to 9, each from its head: take the chunk out, and join
+unfoldable pub consolidate : Heap → Ran (Unit {0})
+consolidate h = drains join fastLists (fastAt 0) h
+
+-- settle's first part: cache lists 0 to 63, each from its head: release past the cache
+unfoldable pub emptying : Heap → Ran (Unit {0})
+emptying h = drains releasePast cacheLists 0 h
+
+-- settle's second part: consolidate, then clear the last remainder
+unfoldable pub joining : Heap → Ran (Unit {0})
+joining h = do
+  h ← consolidate h
+  setRemainder none32 h
+
+unfoldable pub settle : Heap → Ran (Unit {0})
+settle h = do
+  h ← emptying h
+  joining h

@@ -1,0 +1,9 @@
+pub mod Limits
+pub mod Sizes
+pub mod Layout
+pub mod Needed
+pub mod SizeWord
+pub mod Offsets
+pub mod SizesLaws
+pub mod BinLaws
+pub mod Figures

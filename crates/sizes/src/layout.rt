@@ -1,0 +1,33 @@
+// Which word of the record is what: length, top, last remainder; 64 cache heads, 64 counts; 10 fast heads; first and last of bins 1 to 126.
+// The names are those of specs/Layout.antt. Assumes nothing.
+ghost use mathlib.Core.Path.{_≡_};
+ghost use Prim.Native.Nat.{_≤_};
+ghost use Rattle.sizes.specs.Layout.{binFirst, binLast};
+
+pub const LENGTH_WORD: usize = 0;
+
+pub const TOP_WORD: usize = 1;
+
+pub const REMAINDER_WORD: usize = 2;
+
+// The first of the cache heads, of the cache counts, of the fast heads.
+pub const CACHE_HEADS: usize = 3;
+
+pub const CACHE_COUNTS: usize = 67;
+
+pub const FAST_HEADS: usize = 131;
+
+// The word of the first chunk of bin j, and of its last.
+pub fn bin_first(j: usize) -> usize
+    requires { ⌜ j ≤ 126 ⌝ }
+    ensures { λ r. ⌜ r ≡ binFirst j ⌝ }
+{
+    139 + 2 * j
+}
+
+pub fn bin_last(j: usize) -> usize
+    requires { ⌜ j ≤ 126 ⌝ }
+    ensures { λ r. ⌜ r ≡ binLast j ⌝ }
+{
+    140 + 2 * j
+}

@@ -1,0 +1,44 @@
+// Every limit of document 01, by the name that specs/Limits.antt gives it. Assumes nothing.
+
+// An arena is a multiple of 16 bytes, from the least to the most.
+pub const LEAST_ARENA: usize = 32;
+
+pub const MOST_ARENA: usize = 262144;
+
+// A request above this is refused with number 2.
+pub const MOST_REQUEST: u64 = 262144;
+
+// The smallest chunk, and the smallest rest that a split leaves.
+pub const LEAST_CHUNK: u64 = 32;
+
+// The largest chunk that a cache list takes, how many lists there are, and how many chunks each takes.
+pub const MOST_CACHED: u64 = 1040;
+
+pub const CACHE_LISTS: usize = 64;
+
+pub const CACHE_ROOM: u32 = 7;
+
+// The largest chunk that a fast list takes, and how many lists there are.
+pub const MOST_FAST: u64 = 128;
+
+pub const FAST_LISTS: usize = 10;
+
+// The smallest large size, the unsorted bin, and the last bin.
+pub const LARGE: u64 = 1024;
+
+pub const UNSORTED: usize = 1;
+
+pub const LAST_BIN: usize = 126;
+
+// Step 5 stops after so many chunks binned.
+pub const MOST_BINNED: u32 = 10000;
+
+// The record's words, and its bytes.
+pub const RECORD_WORDS: usize = 393;
+
+pub const RECORD_BYTES: usize = 1572;
+
+// No chunk: as a link in the arena, and as a word of the record.
+pub const NONE64: u64 = 18446744073709551615;
+
+pub const NONE32: u32 = 4294967295;

@@ -1,0 +1,490 @@
+/*
+ * Holds the second program against the malloc of the machine's own glibc.
+ *
+ * Each sequence runs in a child of its own, whose malloc has done nothing
+ * yet. A first block is taken so that what remains of glibc's top is as long
+ * as an arena the second program opens; from there on both get the same calls
+ * and every answer must agree, counted from the start of that top. After each
+ * call every chunk's size word, the previous sizes that mean something and
+ * the links of every binned chunk are compared as well.
+ *
+ * The address space is then closed, so that glibc refuses where the second
+ * program refuses with 5, instead of asking the system for more.
+ *
+ * Document 01 leaves out that free consolidates when a joining yields 65,536
+ * bytes or more. A top below that length never shows it; in the longer ones a
+ * sequence ends at the first such joining.
+ */
+#define _DEFAULT_SOURCE
+
+#include <malloc.h>
+#include <stdbool.h>
+#include <stdio.h>
+#include <stdlib.h>
+#include <string.h>
+#include <sys/mman.h>
+#include <sys/resource.h>
+#include <sys/wait.h>
+#include <unistd.h>
+
+#include "heap2.h"
+#include "plain.h"
+#include "random_heap.h"
+#include "trace2.h"
+
+#ifndef __GLIBC__
+
+int main(void)
+{
+    puts("FAILED against glibc: the C library is not glibc; run this test "
+         "on a machine whose C library is glibc 2.26 to 2.41");
+    return 1;
+}
+
+#else
+
+#include <gnu/libc-version.h>
+
+#define SLOTS 512
+#define JOIN_LIMIT 65536
+
+struct sizes {
+    uint32_t palette[6];
+    uint32_t weight[6]; /* tiny, small, near 1,024, large, huge, palette */
+};
+
+struct pair {
+    void *theirs;
+    uint32_t mine;
+};
+
+/* What a child tells; in memory shared with the parent. */
+struct report {
+    uint64_t grants, releases, refusals;
+    uint64_t grown, joined; /* sequences ended by a grown top, by a joining */
+    uint64_t reached[SECOND_PLACE_COUNT];
+    bool failed;
+    uint64_t seed;
+    uint32_t call;
+    char text[160];
+};
+
+struct duel {
+    struct random r;
+    struct report *report;
+    struct sizes sizes;
+    uintptr_t base;
+    uint32_t length;
+    struct pair pair[SLOTS];
+    uint32_t pairs;
+    uint32_t call;
+    bool over;
+};
+
+static uint8_t arena[PLAIN_ARENA_MAX];
+static uint8_t record[PLAIN_RECORD_BYTES];
+
+/* ---- saying what went wrong without malloc ---- */
+
+static void fail(struct duel *d, const char *what, uint64_t mine,
+                 uint64_t theirs)
+{
+    if (d->report->failed)
+        return;
+    d->report->failed = d->over = true;
+    d->report->call = d->call;
+    snprintf(d->report->text, sizeof d->report->text,
+             "%s: %llu here, %llu in glibc (top of %u)", what,
+             (unsigned long long)mine, (unsigned long long)theirs, d->length);
+}
+
+/* ---- glibc's heap as bytes ---- */
+
+static uint64_t their_number(uintptr_t at)
+{
+    uint64_t v;
+    memcpy(&v, (const void *)at, sizeof v);
+    return v;
+}
+
+static uint64_t their_field(const struct duel *d, uint32_t c, uint32_t offset)
+{
+    return their_number(d->base + c + offset);
+}
+
+/* A link out of the arena leads to a bin's header: that is our end. */
+static uint64_t their_link(const struct duel *d, uint32_t c, uint32_t offset)
+{
+    uint64_t inside = their_field(d, c, offset) - d->base;
+    return inside < d->length ? inside : PLAIN_NONE64;
+}
+
+static void same_chunk(struct duel *d, uint32_t c, uint32_t size)
+{
+    uint64_t mine = plain_get(arena + c + 8, 8);
+    if (mine != their_field(d, c, 8)) {
+        fail(d, "size word", mine, their_field(d, c, 8));
+        return;
+    }
+    uint32_t next = c + size;
+    if (next == d->length || plain_get(arena + next + 8, 8) % 2 == 1)
+        return;
+    if (plain_get(arena + next, 8) != their_field(d, next, 0))
+        fail(d, "previous size", plain_get(arena + next, 8),
+             their_field(d, next, 0));
+    for (uint32_t offset = 16; offset <= 24; offset += 8)
+        if (plain_get(arena + c + offset, 8) != their_link(d, c, offset))
+            fail(d, offset == 16 ? "forward link" : "back link",
+                 plain_get(arena + c + offset, 8), their_link(d, c, offset));
+}
+
+static void same_heap(struct duel *d)
+{
+    for (uint32_t c = 0; c < d->length && !d->over;) {
+        uint32_t size = (uint32_t)plain_get(arena + c + 8, 8) & ~15u;
+        same_chunk(d, c, size);
+        c += size;
+    }
+}
+
+/* ---- one call in both ---- */
+
+/* A holder's writes, the same in both. */
+static void holder_writes(struct duel *d, void *p, uint32_t mem,
+                          uint32_t usable)
+{
+    if (p == NULL || d->over || !random_chance(&d->r, 50))
+        return;
+    random_bytes(&d->r, arena + mem, usable);
+    memcpy(p, arena + mem, usable);
+}
+
+/* Answers the mem both gave, or 0. */
+static uint32_t both_grant(struct duel *d, uint64_t n)
+{
+    if (d->over || d->pairs == SLOTS)
+        return 0;
+    d->call++;
+    struct second_answer a =
+        second_grant(arena, d->length, record, sizeof record, n);
+    void *end = sbrk(0);
+    void *p = malloc(n);
+    uintptr_t mem = (uintptr_t)p - d->base;
+
+    if (a.no == 5 && p != NULL && (sbrk(0) != end || mem >= d->length)) {
+        d->report->grown++; /* the system lets glibc grow all the same */
+        d->over = true;
+        return 0;
+    }
+    if (a.no != (p == NULL ? 5 : 0)) {
+        fail(d, "refusal number", a.no, p == NULL ? 5 : 0);
+        return 0;
+    }
+    if (p == NULL) {
+        d->report->refusals++;
+    } else {
+        d->report->grants++;
+        if (a.mem != mem)
+            fail(d, "mem", a.mem, mem);
+        if (a.usable != malloc_usable_size(p))
+            fail(d, "usable", a.usable, malloc_usable_size(p));
+        d->pair[d->pairs++] = (struct pair){ p, a.mem };
+    }
+    same_heap(d);
+    holder_writes(d, p, a.mem, a.usable);
+    return a.mem;
+}
+
+static void both_release(struct duel *d, uint32_t i)
+{
+    if (d->over)
+        return;
+    d->call++;
+    struct pair pair = d->pair[i];
+    d->pair[i] = d->pair[--d->pairs];
+    struct second_answer a =
+        second_release(arena, d->length, record, sizeof record, pair.mine);
+    if (a.no != 0) {
+        fail(d, "release refused with", a.no, 0);
+        return;
+    }
+    if (second_trace.released >= JOIN_LIMIT) {
+        d->report->joined++;
+        d->over = true;
+        return;
+    }
+    free(pair.theirs);
+    d->report->releases++;
+    same_heap(d);
+}
+
+/* Releases a mem that both granted; 0, as a refused grant gives, is nothing. */
+static void both_release_mem(struct duel *d, uint32_t mem)
+{
+    for (uint32_t i = 0; i < d->pairs; i++)
+        if (d->pair[i].mine == mem) {
+            both_release(d, i);
+            return;
+        }
+}
+
+/* ---- sequences ---- */
+
+static uint32_t random_request(struct duel *d)
+{
+    uint32_t sum = 0, kind = 0;
+    for (unsigned i = 0; i < 6; i++)
+        sum += d->sizes.weight[i];
+    uint32_t drawn = random_below(&d->r, sum);
+    while (drawn >= d->sizes.weight[kind])
+        drawn -= d->sizes.weight[kind++];
+    switch (kind) {
+    case 0: return random_below(&d->r, 121);
+    case 1: return random_below(&d->r, 1001);
+    case 2: return 980 + random_below(&d->r, 80);
+    case 3: return 1001 + random_below(&d->r, 4000);
+    case 4: return random_below(&d->r, d->length / 2 + 1);
+    default: return d->sizes.palette[random_below(&d->r, 6)];
+    }
+}
+
+static void draw_sizes(struct duel *d)
+{
+    for (unsigned i = 0; i < 6; i++) {
+        d->sizes.weight[i] = random_below(&d->r, i == 4 ? 3 : 8);
+        d->sizes.palette[i] = random_below(
+            &d->r, i < 2 ? 121 : i < 4 ? 1041 : d->length / 8 + 1);
+    }
+    d->sizes.weight[5] += 2;
+}
+
+/* Equals kept apart, all released, then asked for again: steps 3, 5 and 6. */
+static void run_of_equals(struct duel *d)
+{
+    uint32_t n = random_request(d), fence = random_below(&d->r, 41);
+    uint32_t mem[24], count = 4 + random_below(&d->r, 20);
+
+    for (uint32_t i = 0; i < count; i++) {
+        mem[i] = both_grant(d, n);
+        both_grant(d, fence);
+    }
+    for (uint32_t i = 0; i < count; i++)
+        both_release_mem(d, mem[i]);
+    if (random_chance(&d->r, 40))
+        both_grant(d, n + random_below(&d->r, 200));
+    for (uint32_t i = random_below(&d->r, count + 1); i > 0; i--)
+        both_grant(d, n);
+}
+
+/*
+ * The last remainder grows by the block behind it and so goes first in
+ * unsorted, before a chunk that the next request fits exactly: step 5 caches
+ * that one and then splits the remainder.
+ */
+static void remainder_that_grows(struct duel *d)
+{
+    uint32_t n = 121 + random_below(&d->r, 400), mem[8];
+
+    for (uint32_t i = 0; i < 8; i++)
+        mem[i] = both_grant(d, n);
+    both_grant(d, 24);
+    uint32_t split = both_grant(d, 1500 + random_below(&d->r, 500));
+    uint32_t behind = both_grant(d, 1100 + random_below(&d->r, 500));
+    both_grant(d, 24);
+    both_release_mem(d, split);
+    for (uint32_t i = 0; i < 7; i++)
+        both_release_mem(d, mem[i]);
+    both_grant(d, 540 + random_below(&d->r, 200));
+    both_release_mem(d, mem[7]);
+    both_release_mem(d, behind);
+    for (uint32_t i = 0; i < 8; i++)
+        both_grant(d, n);
+}
+
+static void release_some(struct duel *d)
+{
+    uint32_t keep = random_below(&d->r, d->pairs + 1);
+    if (random_chance(&d->r, 30))
+        keep = random_below(&d->r, 4);
+    while (d->pairs > keep && !d->over)
+        both_release(d, random_below(&d->r, d->pairs));
+}
+
+/* Most of a long top is used up first, so that few joins reach it. */
+static void fill_long_top(struct duel *d)
+{
+    while (d->length - plain_word(record, 1) > JOIN_LIMIT / 2
+           && d->pairs < SLOTS / 2 && !d->over)
+        both_grant(d, random_chance(&d->r, 50) ? random_request(d)
+                                               : random_below(&d->r, 24000));
+}
+
+static void run_sequence(struct duel *d, uint32_t calls)
+{
+    uint32_t grant_percent = 50 + random_below(&d->r, 10);
+
+    while (d->call < calls && !d->over) {
+        uint32_t drawn = random_below(&d->r, 1000);
+        if (drawn < 8)
+            run_of_equals(d);
+        else if (drawn < 16)
+            release_some(d);
+        else if (drawn < 24)
+            draw_sizes(d);
+        else if (d->pairs == 0 || random_chance(&d->r, grant_percent)) {
+            if (both_grant(d, random_request(d)) == 0
+                && random_chance(&d->r, 10))
+                release_some(d);
+        }
+        else
+            both_release(d, random_below(&d->r, d->pairs));
+    }
+}
+
+/* ---- a child's malloc made ready ---- */
+
+/* Leaves glibc a top of exactly that length and notes where it starts. */
+static bool make_top(struct duel *d)
+{
+    mallopt(M_MMAP_MAX, 0);
+    mallopt(M_TRIM_THRESHOLD, 1 << 30);
+    mallopt(M_TOP_PAD, 1 << 20);
+    char *p = malloc(24);
+    if (p == NULL)
+        return false;
+    uintptr_t top = (uintptr_t)p + malloc_usable_size(p) - 8;
+    uint64_t size = their_number(top + 8) & ~(uint64_t)15;
+    if (top + size != (uintptr_t)sbrk(0) || size < d->length + 32)
+        return false;
+    void *filler = malloc(size - d->length - 8);
+    d->base = top + size - d->length;
+    return (uintptr_t)filler == top + 16
+        && their_number(d->base + 8) == d->length + 1;
+}
+
+/* Not inlined: its frame must lie where those of later calls will. */
+__attribute__((noinline)) static void touch_stack(void)
+{
+    volatile char touched[1 << 18];
+    for (size_t i = 0; i < sizeof touched; i += 512)
+        touched[i] = 1;
+}
+
+/* The stack is touched first: it could not grow afterwards either. */
+static void close_address_space(void)
+{
+    struct rlimit none = { 0, 0 };
+    touch_stack();
+    setrlimit(RLIMIT_AS, &none);
+}
+
+static void child(struct report *report, uint64_t seed, bool long_top)
+{
+    static struct duel duel;
+    struct duel *d = &duel;
+
+    *d = (struct duel){ .r = { seed }, .report = report };
+    report->seed = seed;
+    uint32_t most = long_top ? 262144 : JOIN_LIMIT - 16;
+    uint32_t least = long_top        ? JOIN_LIMIT
+        : random_chance(&d->r, 20) ? 32 : 4096;
+    d->length = least + 16 * random_below(&d->r, (most - least) / 16 + 1);
+    draw_sizes(d);
+    second_open(arena, d->length, record, sizeof record);
+    if (!make_top(d)) {
+        fail(d, "malloc's top could not be made as long as the arena", 0, 0);
+        return;
+    }
+    close_address_space();
+    if (long_top)
+        fill_long_top(d);
+    else if (random_chance(&d->r, 25))
+        remainder_that_grows(d);
+    run_sequence(d, 1000);
+    for (unsigned i = 0; i < SECOND_PLACE_COUNT; i++)
+        report->reached[i] += second_trace.reached[i];
+}
+
+/* ---- the parent ---- */
+
+static bool run_child(struct report *report, uint64_t seed, bool long_top)
+{
+    pid_t pid = fork();
+    int status = 0;
+
+    if (pid == 0) {
+        child(report, seed, long_top);
+        _exit(0);
+    }
+    bool ended = pid > 0 && waitpid(pid, &status, 0) == pid
+        && WIFEXITED(status) && WEXITSTATUS(status) == 0;
+    if (!ended && !report->failed) {
+        static const char text[] = "the child did not end in order";
+        report->failed = true;
+        memcpy(report->text, text, sizeof text);
+    }
+    return !report->failed;
+}
+
+static bool tell(const char *name, const struct report *report)
+{
+    if (report->failed)
+        printf("FAILED %s, glibc %s: seed %llu, call %u: %s\n", name,
+               gnu_get_libc_version(), (unsigned long long)report->seed,
+               report->call, report->text);
+    else
+        printf("ok %s, glibc %s: %llu grants, %llu releases, %llu refusals "
+               "agree; %llu sequences ended early by a joining, %llu by a "
+               "top that grew\n",
+               name, gnu_get_libc_version(), (unsigned long long)report->grants,
+               (unsigned long long)report->releases,
+               (unsigned long long)report->refusals,
+               (unsigned long long)report->joined,
+               (unsigned long long)report->grown);
+    return !report->failed;
+}
+
+static bool every_place_reached(const struct report *report,
+                                const struct report *other)
+{
+#define PLACE_TEXT(place, text) text,
+    static const char *const text[] = { SECOND_PLACES(PLACE_TEXT) };
+#undef PLACE_TEXT
+    bool all = true;
+
+    for (unsigned i = 0; i < SECOND_PLACE_COUNT; i++) {
+        uint64_t times = report->reached[i] + other->reached[i];
+        printf("   %9llu times: %s\n", (unsigned long long)times, text[i]);
+        all = all && times > 0;
+    }
+    puts(all ? "ok every place of the steps was reached against glibc"
+             : "FAILED every place of the steps was reached against glibc: "
+               "one was reached 0 times, see above");
+    return all;
+}
+
+int main(int argc, char **argv)
+{
+    unsigned long sequences = argc > 1 ? strtoul(argv[1], NULL, 10) : 600;
+    struct report *report = mmap(NULL, 2 * sizeof *report,
+                                 PROT_READ | PROT_WRITE,
+                                 MAP_SHARED | MAP_ANONYMOUS, -1, 0);
+    if (report == MAP_FAILED || getenv("GLIBC_TUNABLES") != NULL) {
+        puts("FAILED against glibc: no shared memory, or GLIBC_TUNABLES is "
+             "set; unset it and run again");
+        return 1;
+    }
+    /* Nothing is printed before the last child: stdio would use malloc. */
+    for (uint64_t seed = 1; seed <= sequences; seed++)
+        if (!run_child(&report[0], seed, false))
+            break;
+    for (uint64_t seed = 1; seed <= sequences / 2; seed++)
+        if (!run_child(&report[1], (seed << 32) + seed, true))
+            break;
+    bool good = tell("tops below 65,536", &report[0]);
+    good = tell("longer tops", &report[1]) && good;
+    good = every_place_reached(&report[0], &report[1]) && good;
+    return good ? 0 : 1;
+}
+
+#endif

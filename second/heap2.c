@@ -1,0 +1,821 @@
+/*
+ * Document 01's heap. The order of the file: the heap's words, the lists,
+ * joining, the numbered steps, the audit, the calls. A call checks shape,
+ * then its number, then the whole heap, and only then writes; from there on
+ * every offset read from the arena is known to be a chunk.
+ */
+#include "heap2.h"
+
+#include <stdbool.h>
+
+#include "layout2.h"
+#include "trace2.h"
+
+#define P 1u
+#define CHUNK_MIN 32u
+#define CACHE_MAX 1040u
+#define CACHE_DEPTH 7u
+#define FAST_MAX 128u
+#define LARGE_MIN 1024u
+#define REQUEST_MAX 262144u
+#define BINNED_MAX 10000u
+
+enum refusal {
+    GRANTED = 0,
+    BAD_SHAPE = 1,
+    REQUEST_TOO_LARGE = 2,
+    NOT_SOUND = 3,
+    NOT_LIVE = 4,
+    NO_ROOM = 5
+};
+
+struct heap {
+    uint8_t *arena;
+    uint8_t *record;
+    uint32_t length;
+};
+
+#ifdef SECOND_TRACE
+struct second_trace second_trace;
+#endif
+
+/* ---- words ---- */
+
+static uint32_t get(const struct heap *h, unsigned word)
+{
+    return word_get(h->record, word);
+}
+
+static void put(struct heap *h, unsigned word, uint32_t v)
+{
+    word_put(h->record, word, v);
+}
+
+/* On a sound heap a link is an offset or all ones, so the cut keeps both. */
+static uint32_t link_get(const struct heap *h, uint32_t c, enum field f)
+{
+    return (uint32_t)field_get(h->arena, c, f);
+}
+
+static uint64_t widen(uint32_t offset)
+{
+    return offset == NONE ? LINK_NONE : offset;
+}
+
+static void link_put(struct heap *h, uint32_t c, enum field f, uint32_t to)
+{
+    field_put(h->arena, c, f, widen(to));
+}
+
+static uint32_t size_of(const struct heap *h, uint32_t c)
+{
+    return (uint32_t)field_get(h->arena, c, SIZE_WORD) & ~15u;
+}
+
+static bool p_of(const struct heap *h, uint32_t c)
+{
+    return field_get(h->arena, c, SIZE_WORD) & P;
+}
+
+/* Every size word the steps write has P set; only clear_p clears it. */
+static void size_put(struct heap *h, uint32_t c, uint32_t size)
+{
+    field_put(h->arena, c, SIZE_WORD, size | P);
+}
+
+static void set_p(struct heap *h, uint32_t c)
+{
+    field_put(h->arena, c, SIZE_WORD, field_get(h->arena, c, SIZE_WORD) | P);
+}
+
+static void clear_p(struct heap *h, uint32_t c)
+{
+    field_put(h->arena, c, SIZE_WORD,
+              field_get(h->arena, c, SIZE_WORD) & ~(uint64_t)P);
+}
+
+static uint32_t mem_of(uint32_t c)
+{
+    return c + 16;
+}
+
+/* ---- where a size belongs ---- */
+
+static unsigned cache_of(uint32_t size)
+{
+    return (size - CHUNK_MIN) / 16;
+}
+
+static unsigned fast_of(uint32_t size)
+{
+    return size / 16 - 2;
+}
+
+static unsigned bin_of(uint32_t size)
+{
+    if (size < LARGE_MIN)
+        return size / 16;
+    if (size / 64 <= 48)
+        return 48 + size / 64;
+    if (size / 512 <= 20)
+        return 91 + size / 512;
+    if (size / 4096 <= 10)
+        return 110 + size / 4096;
+    if (size / 32768 <= 4)
+        return 119 + size / 32768;
+    if (size / 262144 <= 2)
+        return 124 + size / 262144;
+    return 126;
+}
+
+/* ---- cache and fast lists ---- */
+
+static bool cache_has_room(const struct heap *h, uint32_t size)
+{
+    return size <= CACHE_MAX
+        && get(h, CACHE_COUNT + cache_of(size)) < CACHE_DEPTH;
+}
+
+static void cache_push(struct heap *h, unsigned k, uint32_t c)
+{
+    link_put(h, c, FORWARD, get(h, CACHE_HEAD + k));
+    put(h, CACHE_HEAD + k, c);
+    put(h, CACHE_COUNT + k, get(h, CACHE_COUNT + k) + 1);
+}
+
+static uint32_t cache_take(struct heap *h, unsigned k)
+{
+    uint32_t c = get(h, CACHE_HEAD + k);
+    if (c == NONE)
+        return NONE;
+    put(h, CACHE_HEAD + k, link_get(h, c, FORWARD));
+    put(h, CACHE_COUNT + k, get(h, CACHE_COUNT + k) - 1);
+    return c;
+}
+
+static void fast_push(struct heap *h, unsigned k, uint32_t c)
+{
+    link_put(h, c, FORWARD, get(h, FAST_HEAD + k));
+    put(h, FAST_HEAD + k, c);
+}
+
+static uint32_t fast_take(struct heap *h, unsigned k)
+{
+    uint32_t c = get(h, FAST_HEAD + k);
+    if (c != NONE)
+        put(h, FAST_HEAD + k, link_get(h, c, FORWARD));
+    return c;
+}
+
+static bool some_fast(const struct heap *h)
+{
+    for (unsigned k = 0; k < FAST_LISTS; k++)
+        if (get(h, FAST_HEAD + k) != NONE)
+            return true;
+    return false;
+}
+
+/* ---- bins ---- */
+
+static uint32_t bin_first(const struct heap *h, unsigned bin)
+{
+    return get(h, BIN_FIRST + 2 * bin);
+}
+
+static uint32_t bin_last(const struct heap *h, unsigned bin)
+{
+    return get(h, BIN_LAST + 2 * bin);
+}
+
+/* The two places that say "forward of": a chunk's link or a bin's first. */
+static void set_forward(struct heap *h, unsigned bin, uint32_t of, uint32_t to)
+{
+    if (of == NONE)
+        put(h, BIN_FIRST + 2 * bin, to);
+    else
+        link_put(h, of, FORWARD, to);
+}
+
+static void set_back(struct heap *h, unsigned bin, uint32_t of, uint32_t to)
+{
+    if (of == NONE)
+        put(h, BIN_LAST + 2 * bin, to);
+    else
+        link_put(h, of, BACK, to);
+}
+
+static void insert(struct heap *h, unsigned bin, uint32_t before, uint32_t c,
+                   uint32_t after)
+{
+    link_put(h, c, FORWARD, after);
+    link_put(h, c, BACK, before);
+    set_forward(h, bin, before, c);
+    set_back(h, bin, after, c);
+}
+
+static void insert_first(struct heap *h, unsigned bin, uint32_t c)
+{
+    insert(h, bin, NONE, c, bin_first(h, bin));
+}
+
+/*
+ * An end of a list is told by the record alone: a chunk without a neighbour
+ * may be in unsorted or in its size's bin, and is in one of them only.
+ */
+static void unlink_chunk(struct heap *h, uint32_t c)
+{
+    uint32_t forward = link_get(h, c, FORWARD);
+    uint32_t back = link_get(h, c, BACK);
+    unsigned bin = UNSORTED;
+
+    if ((back == NONE && bin_first(h, UNSORTED) != c)
+        || (forward == NONE && bin_last(h, UNSORTED) != c))
+        bin = bin_of(size_of(h, c));
+    set_forward(h, bin, back, forward);
+    set_back(h, bin, forward, back);
+}
+
+static uint32_t take_last(struct heap *h, unsigned bin)
+{
+    uint32_t c = bin_last(h, bin);
+    if (c == NONE)
+        return NONE;
+    uint32_t back = link_get(h, c, BACK);
+    set_forward(h, bin, back, NONE);
+    put(h, BIN_LAST + 2 * bin, back);
+    return c;
+}
+
+/* Sizes fall from first to last; an equal goes right behind the first equal. */
+static void insert_large(struct heap *h, unsigned bin, uint32_t c,
+                         uint32_t size)
+{
+    uint32_t before = bin_last(h, bin), after = NONE;
+
+    if (before != NONE && size >= size_of(h, before)) {
+        before = NONE;
+        after = bin_first(h, bin);
+        while (size_of(h, after) > size) {
+            before = after;
+            after = link_get(h, after, FORWARD);
+        }
+        if (size_of(h, after) == size) {
+            REACHED(STEP_5_SECOND);
+            before = after;
+            after = link_get(h, after, FORWARD);
+        }
+    }
+    insert(h, bin, before, c, after);
+}
+
+static void put_in_bin(struct heap *h, uint32_t c, uint32_t size)
+{
+    if (size < LARGE_MIN) {
+        REACHED(STEP_5_SMALL);
+        insert_first(h, bin_of(size), c);
+    } else {
+        REACHED(STEP_5_LARGE);
+        insert_large(h, bin_of(size), c, size);
+    }
+}
+
+/* ---- splitting and joining ---- */
+
+/* Cuts a chunk of the given size after b bytes and answers the rest. */
+static uint32_t split(struct heap *h, uint32_t c, uint32_t size, uint32_t b)
+{
+    uint32_t rest = c + b;
+    size_put(h, c, b);
+    size_put(h, rest, size - b);
+    field_put(h->arena, c + size, PREVIOUS_SIZE, size - b);
+    return rest;
+}
+
+/*
+ * Joins a chunk that is in no list with its free neighbours and answers the
+ * size of the whole. The one before is unlinked first: where the two are
+ * neighbours in one list too, the order shows in the bytes left behind.
+ */
+static uint32_t join(struct heap *h, uint32_t c)
+{
+    uint32_t size = size_of(h, c);
+    uint32_t next = c + size;
+    uint32_t top = get(h, TOP);
+    bool before = !p_of(h, c);
+
+    if (before) {
+        uint32_t size_before =
+            (uint32_t)field_get(h->arena, c, PREVIOUS_SIZE);
+        c -= size_before;
+        size += size_before;
+        unlink_chunk(h, c);
+        REACHED(JOIN_BEFORE);
+    }
+    if (next == top) {
+        size += size_of(h, top);
+        size_put(h, c, size);
+        put(h, TOP, c);
+        REACHED(JOIN_TOP);
+        return size;
+    }
+    uint32_t next_size = size_of(h, next);
+    if (!p_of(h, next + next_size)) {
+        unlink_chunk(h, next);
+        size += next_size;
+        REACHED(before ? JOIN_BOTH : JOIN_AFTER);
+    }
+    size_put(h, c, size);
+    clear_p(h, c + size);
+    field_put(h->arena, c + size, PREVIOUS_SIZE, size);
+    insert_first(h, UNSORTED, c);
+    return size;
+}
+
+static void consolidate(struct heap *h)
+{
+    uint32_t c;
+    for (unsigned k = 0; k < FAST_LISTS; k++)
+        while ((c = fast_take(h, k)) != NONE)
+            join(h, c);
+}
+
+/* Answers the size of what the joining yielded, 0 if there was none. */
+static uint32_t release_past_cache(struct heap *h, uint32_t c)
+{
+    uint32_t size = size_of(h, c);
+    if (size > FAST_MAX)
+        return join(h, c);
+    fast_push(h, fast_of(size), c);
+    return 0;
+}
+
+/*
+ * ---- the steps of a grant of chunk size b ----
+ * Each that can grant answers the chunk, or NONE.
+ */
+
+static uint32_t step1(struct heap *h, uint32_t b)
+{
+    if (b > CACHE_MAX)
+        return NONE;
+    uint32_t c = cache_take(h, cache_of(b));
+    if (c != NONE)
+        REACHED(STEP_1);
+    return c;
+}
+
+static uint32_t step2(struct heap *h, uint32_t b)
+{
+    if (b > FAST_MAX)
+        return NONE;
+    uint32_t c = fast_take(h, fast_of(b)), other;
+    if (c == NONE)
+        return NONE;
+    REACHED(STEP_2);
+    while (cache_has_room(h, b) && (other = fast_take(h, fast_of(b))) != NONE) {
+        cache_push(h, cache_of(b), other);
+        REACHED(STEP_2_MOVED);
+    }
+    return c;
+}
+
+static uint32_t step3(struct heap *h, uint32_t b)
+{
+    if (b >= LARGE_MIN)
+        return NONE;
+    unsigned bin = b / 16;
+    uint32_t c = take_last(h, bin), other;
+    if (c == NONE)
+        return NONE;
+    REACHED(STEP_3);
+    set_p(h, c + b);
+    while (cache_has_room(h, b) && (other = take_last(h, bin)) != NONE) {
+        set_p(h, other + b);
+        cache_push(h, cache_of(b), other);
+        REACHED(STEP_3_MOVED);
+    }
+    return c;
+}
+
+static void step4(struct heap *h, uint32_t b)
+{
+    if (b < LARGE_MIN || !some_fast(h))
+        return;
+    REACHED(STEP_4);
+    consolidate(h);
+}
+
+/* The only chunk of unsorted is the last remainder, and b leaves room. */
+static bool last_remainder_serves(const struct heap *h, uint32_t c,
+                                  uint32_t size, uint32_t b)
+{
+    if (b >= LARGE_MIN || c != bin_first(h, UNSORTED)
+        || c != get(h, LAST_REMAINDER))
+        return false;
+    if (size == b + CHUNK_MIN)
+        REACHED(STEP_5_EXACT_REST);
+    return size > b + CHUNK_MIN;
+}
+
+static uint32_t split_last_remainder(struct heap *h, uint32_t c, uint32_t size,
+                                     uint32_t b)
+{
+    uint32_t rest = split(h, c, size, b);
+    link_put(h, rest, FORWARD, NONE);
+    link_put(h, rest, BACK, NONE);
+    put(h, BIN_FIRST + 2 * UNSORTED, rest);
+    put(h, BIN_LAST + 2 * UNSORTED, rest);
+    put(h, LAST_REMAINDER, rest);
+    return c;
+}
+
+static uint32_t step5(struct heap *h, uint32_t b)
+{
+    bool cached = false;
+    unsigned binned = 0;
+    uint32_t c;
+
+    while (binned < BINNED_MAX && (c = bin_last(h, UNSORTED)) != NONE) {
+        uint32_t size = size_of(h, c);
+        if (last_remainder_serves(h, c, size, b)) {
+            REACHED(cached ? STEP_5_SPLIT_CACHED : STEP_5_SPLIT);
+            return split_last_remainder(h, c, size, b);
+        }
+        take_last(h, UNSORTED);
+        if (size != b) {
+            put_in_bin(h, c, size);
+            binned++;
+            continue;
+        }
+        set_p(h, c + size);
+        if (!cache_has_room(h, b)) {
+            REACHED(b > CACHE_MAX ? STEP_5_EQUAL_LARGE : STEP_5_GRANTED);
+            return c;
+        }
+        cache_push(h, cache_of(b), c);
+        cached = true;
+    }
+    if (!cached)
+        return NONE;
+    REACHED(STEP_5_CACHED);
+    return cache_take(h, cache_of(b));
+}
+
+/* Gives b bytes of a chunk that step 6 or 7 has unlinked. */
+static uint32_t step8(struct heap *h, uint32_t b, uint32_t c)
+{
+    uint32_t size = size_of(h, c);
+    if (size - b < CHUNK_MIN) {
+        REACHED(STEP_8_WHOLE);
+        set_p(h, c + size);
+        return c;
+    }
+    REACHED(STEP_8_SPLIT);
+    uint32_t rest = split(h, c, size, b);
+    insert_first(h, UNSORTED, rest);
+    if (b < LARGE_MIN) /* so it was step 7 */
+        put(h, LAST_REMAINDER, rest);
+    return c;
+}
+
+static uint32_t step6(struct heap *h, uint32_t b)
+{
+    if (b < LARGE_MIN)
+        return NONE;
+    uint32_t c = bin_last(h, bin_of(b));
+    while (c != NONE && size_of(h, c) < b)
+        c = link_get(h, c, BACK);
+    if (c == NONE)
+        return NONE;
+    REACHED(STEP_6);
+
+    /* c is the last of its equals: walk to their first, keeping the second. */
+    uint32_t size = size_of(h, c), chosen = c, back;
+    while ((back = link_get(h, c, BACK)) != NONE && size_of(h, back) == size) {
+        chosen = c;
+        c = back;
+    }
+    if (chosen != c)
+        REACHED(STEP_6_SECOND);
+    unlink_chunk(h, chosen);
+    return step8(h, b, chosen);
+}
+
+static uint32_t step7(struct heap *h, uint32_t b)
+{
+    for (unsigned bin = bin_of(b) + 1; bin <= BINS; bin++) {
+        uint32_t c = take_last(h, bin);
+        if (c != NONE) {
+            REACHED(STEP_7);
+            return step8(h, b, c);
+        }
+    }
+    return NONE;
+}
+
+/* Answers false when it has consolidated and the search goes on at step 5. */
+static bool step9(struct heap *h, uint32_t b, uint32_t *granted)
+{
+    uint32_t c = get(h, TOP);
+    uint32_t size = size_of(h, c);
+
+    *granted = NONE;
+    if (size >= b + CHUNK_MIN) {
+        REACHED(STEP_9);
+        size_put(h, c, b);
+        size_put(h, c + b, size - b);
+        put(h, TOP, c + b);
+        *granted = c;
+        return true;
+    }
+    if (some_fast(h)) {
+        REACHED(STEP_9_AGAIN);
+        consolidate(h);
+        return false;
+    }
+    REACHED(STEP_9_REFUSED);
+    return true;
+}
+
+static uint32_t steps_2_to_9(struct heap *h, uint32_t b)
+{
+    uint32_t c;
+    if ((c = step2(h, b)) != NONE || (c = step3(h, b)) != NONE)
+        return c;
+    step4(h, b);
+    do {
+        if ((c = step5(h, b)) != NONE || (c = step6(h, b)) != NONE
+            || (c = step7(h, b)) != NONE)
+            return c;
+    } while (!step9(h, b, &c));
+    return c;
+}
+
+/* ---- the audit ---- */
+
+/* What the audit knows of the 16 bytes at an offset. */
+enum mark { NO_CHUNK, UNLISTED, STACKED, BINNED, IS_TOP };
+
+struct marks {
+    uint8_t at[ARENA_MAX / 16];
+};
+
+static struct second_fault fault(enum second_kind kind, uint32_t number)
+{
+    return (struct second_fault){ 0, kind, number };
+}
+
+static struct second_fault audit_tiles(const struct heap *h, struct marks *m)
+{
+    memset(m->at, NO_CHUNK, h->length / 16);
+    for (uint32_t c = 0;;) {
+        uint64_t word = field_get(h->arena, c, SIZE_WORD);
+        uint64_t size = word & ~(uint64_t)15;
+        uint32_t remains = h->length - c;
+
+        if ((word & 14) != 0 || size < CHUNK_MIN || size > remains)
+            return fault(SECOND_TILE, c);
+        if (size == remains) {
+            m->at[c / 16] = IS_TOP;
+            if (get(h, TOP) != c)
+                return fault(SECOND_TILE, c);
+            return fault(SECOND_SOUND, 0);
+        }
+        m->at[c / 16] = UNLISTED;
+        c += (uint32_t)size;
+    }
+}
+
+/* Only a chunk no list has named before may be named; it is then marked. */
+static bool meet(const struct heap *h, struct marks *m, uint64_t c,
+                 enum mark as)
+{
+    if (c >= h->length || c % 16 != 0 || m->at[c / 16] != UNLISTED)
+        return false;
+    m->at[c / 16] = (uint8_t)as;
+    return true;
+}
+
+/* Answers whether a stack of that chunk size is good, and its length. */
+static bool audit_stack(const struct heap *h, struct marks *m, uint32_t head,
+                        uint32_t size, uint32_t most, uint32_t *length)
+{
+    uint64_t c = widen(head);
+    for (*length = 0; c != LINK_NONE; ++*length) {
+        if (*length == most || !meet(h, m, c, STACKED)
+            || size_of(h, (uint32_t)c) != size)
+            return false;
+        c = field_get(h->arena, (uint32_t)c, FORWARD);
+    }
+    return true;
+}
+
+static bool audit_bin(const struct heap *h, struct marks *m, unsigned bin)
+{
+    uint64_t back = LINK_NONE, c = widen(bin_first(h, bin));
+    uint32_t size_before = UINT32_MAX;
+
+    while (c != LINK_NONE) {
+        if (!meet(h, m, c, BINNED))
+            return false;
+        uint32_t size = size_of(h, (uint32_t)c);
+        if (bin != UNSORTED && (bin_of(size) != bin || size > size_before))
+            return false;
+        if (field_get(h->arena, (uint32_t)c, BACK) != back)
+            return false;
+        back = c;
+        size_before = size;
+        c = field_get(h->arena, (uint32_t)c, FORWARD);
+    }
+    return widen(bin_last(h, bin)) == back;
+}
+
+static struct second_fault audit_lists(const struct heap *h, struct marks *m)
+{
+    uint32_t length;
+    for (unsigned k = 0; k < CACHE_LISTS; k++)
+        if (!audit_stack(h, m, get(h, CACHE_HEAD + k), CHUNK_MIN + 16 * k,
+                         CACHE_DEPTH, &length)
+            || length != get(h, CACHE_COUNT + k))
+            return fault(SECOND_CACHE, k);
+    for (unsigned k = 0; k < FAST_LISTS; k++) {
+        uint32_t size = CHUNK_MIN + 16 * k; /* lists 7 to 9 own none */
+        if (!audit_stack(h, m, get(h, FAST_HEAD + k), size,
+                         size <= FAST_MAX ? UINT32_MAX : 0, &length))
+            return fault(SECOND_FAST, k);
+    }
+    for (unsigned bin = 1; bin <= BINS; bin++)
+        if (!audit_bin(h, m, bin))
+            return fault(SECOND_BIN, bin);
+    return fault(SECOND_SOUND, 0);
+}
+
+static struct second_fault audit_flags(const struct heap *h,
+                                       const struct marks *m)
+{
+    bool binned_before = false;
+    uint32_t size_before = 0;
+
+    for (uint32_t c = 0; c < h->length;) {
+        enum mark mark = m->at[c / 16];
+        if (p_of(h, c) == binned_before)
+            return fault(SECOND_FLAG, c);
+        if (binned_before
+            && (mark == BINNED || mark == IS_TOP
+                || field_get(h->arena, c, PREVIOUS_SIZE) != size_before))
+            return fault(SECOND_FLAG, c);
+        binned_before = mark == BINNED;
+        size_before = size_of(h, c);
+        c += size_before;
+    }
+    return fault(SECOND_SOUND, 0);
+}
+
+static struct second_fault audit(const struct heap *h, struct marks *m)
+{
+    if (get(h, ARENA_LENGTH) != h->length)
+        return fault(SECOND_RECORD, 0);
+    struct second_fault f = audit_tiles(h, m);
+    if (f.kind == SECOND_SOUND)
+        f = audit_lists(h, m);
+    if (f.kind == SECOND_SOUND)
+        f = audit_flags(h, m);
+    return f;
+}
+
+static bool sound(const struct heap *h, struct marks *m)
+{
+    return audit(h, m).kind == SECOND_SOUND;
+}
+
+/* ---- the calls ---- */
+
+static struct second_answer answer(enum refusal no)
+{
+    return (struct second_answer){ no, 0, 0 };
+}
+
+static bool arena_allowed(size_t arena_len)
+{
+    return arena_len >= ARENA_MIN && arena_len <= ARENA_MAX
+        && arena_len % 16 == 0;
+}
+
+/* Fills in the heap of good shape; shape is judged on the lengths alone. */
+static bool shaped(struct heap *h, uint8_t *arena, size_t arena_len,
+                   uint8_t *record, size_t record_len)
+{
+    if (!arena_allowed(arena_len) || record_len != RECORD_BYTES)
+        return false;
+    *h = (struct heap){ arena, record, (uint32_t)arena_len };
+    return true;
+}
+
+static void record_clear(uint8_t *record, uint32_t length, uint32_t top)
+{
+    memset(record, 0xff, RECORD_BYTES);
+    word_put(record, ARENA_LENGTH, length);
+    word_put(record, TOP, top);
+    for (unsigned k = 0; k < CACHE_LISTS; k++)
+        word_put(record, CACHE_COUNT + k, 0);
+}
+
+struct second_answer second_open(uint8_t *arena, size_t arena_len,
+                                 uint8_t *record, size_t record_len)
+{
+    struct heap h;
+    if (!shaped(&h, arena, arena_len, record, record_len)) {
+        if (record_len == RECORD_BYTES)
+            record_clear(record, 0, NONE);
+        return answer(BAD_SHAPE);
+    }
+    record_clear(record, h.length, 0);
+    size_put(&h, 0, h.length);
+    return answer(GRANTED);
+}
+
+struct second_answer second_grant(uint8_t *arena, size_t arena_len,
+                                  uint8_t *record, size_t record_len,
+                                  uint64_t n)
+{
+    struct heap h;
+    struct marks m;
+    if (!shaped(&h, arena, arena_len, record, record_len))
+        return answer(BAD_SHAPE);
+    if (n > REQUEST_MAX)
+        return answer(REQUEST_TOO_LARGE);
+    if (!sound(&h, &m))
+        return answer(NOT_SOUND);
+
+    uint32_t b = ((uint32_t)n + 23) & ~15u;
+    if (b < CHUNK_MIN)
+        b = CHUNK_MIN;
+    uint32_t c = step1(&h, b);
+    if (c == NONE)
+        c = steps_2_to_9(&h, b);
+    if (c == NONE)
+        return answer(NO_ROOM);
+    return (struct second_answer){ GRANTED, mem_of(c), size_of(&h, c) - 8 };
+}
+
+static bool live(const struct heap *h, const struct marks *m, uint64_t mem)
+{
+    return mem >= 16 && mem - 16 < h->length && mem % 16 == 0
+        && m->at[(mem - 16) / 16] == UNLISTED;
+}
+
+struct second_answer second_release(uint8_t *arena, size_t arena_len,
+                                    uint8_t *record, size_t record_len,
+                                    uint64_t mem)
+{
+    struct heap h;
+    struct marks m;
+    if (!shaped(&h, arena, arena_len, record, record_len))
+        return answer(BAD_SHAPE);
+    if (!sound(&h, &m))
+        return answer(NOT_SOUND);
+    if (mem == 0)
+        return answer(GRANTED);
+    if (!live(&h, &m, mem))
+        return answer(NOT_LIVE);
+
+    uint32_t c = (uint32_t)mem - 16;
+    uint32_t size = size_of(&h, c), joined = 0;
+    if (cache_has_room(&h, size))
+        cache_push(&h, cache_of(size), c);
+    else
+        joined = release_past_cache(&h, c);
+    RELEASED(joined);
+    return answer(GRANTED);
+}
+
+struct second_answer second_settle(uint8_t *arena, size_t arena_len,
+                                   uint8_t *record, size_t record_len)
+{
+    struct heap h;
+    struct marks m;
+    uint32_t c;
+    if (!shaped(&h, arena, arena_len, record, record_len))
+        return answer(BAD_SHAPE);
+    if (!sound(&h, &m))
+        return answer(NOT_SOUND);
+
+    for (unsigned k = 0; k < CACHE_LISTS; k++)
+        while ((c = cache_take(&h, k)) != NONE)
+            release_past_cache(&h, c);
+    consolidate(&h);
+    put(&h, LAST_REMAINDER, NONE);
+    return answer(GRANTED);
+}
+
+struct second_fault second_audit(const uint8_t *arena, size_t arena_len,
+                                 const uint8_t *record, size_t record_len)
+{
+    struct heap h;
+    struct marks m;
+    /* The audit writes neither buffer, though a heap could. */
+    if (!shaped(&h, (uint8_t *)(uintptr_t)arena, arena_len,
+                (uint8_t *)(uintptr_t)record, record_len))
+        return (struct second_fault){ BAD_SHAPE, 0, 0 };
+    return audit(&h, &m);
+}

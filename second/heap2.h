@@ -1,0 +1,49 @@
+/*
+ * The second program: document 01's heap in plain C, written from the
+ * document alone, so that another implementation can be held against it.
+ *
+ * Each call works on an arena (lent bytes) and its control record (1,572
+ * bytes, 393 little-endian words). The two buffers must not overlap; neither
+ * needs any alignment. Nothing is kept between calls.
+ */
+#ifndef HEAP2_H
+#define HEAP2_H
+
+#include <stddef.h>
+#include <stdint.h>
+
+/* no: 0, or the refusal's number. mem and usable are 0 unless a grant. */
+struct second_answer {
+    uint32_t no, mem, usable;
+};
+
+/* What an audit found; no is 0, or 1 when the buffers have a bad shape. */
+struct second_fault {
+    uint32_t no, kind, number;
+};
+
+/* The kinds of fault; number is the list's number, or the offset. */
+enum second_kind {
+    SECOND_SOUND,
+    SECOND_RECORD,
+    SECOND_TILE,
+    SECOND_CACHE,
+    SECOND_FAST,
+    SECOND_BIN,
+    SECOND_FLAG
+};
+
+struct second_answer second_open(uint8_t *arena, size_t arena_len,
+                                 uint8_t *record, size_t record_len);
+struct second_answer second_grant(uint8_t *arena, size_t arena_len,
+                                  uint8_t *record, size_t record_len,
+                                  uint64_t n);
+struct second_answer second_release(uint8_t *arena, size_t arena_len,
+                                    uint8_t *record, size_t record_len,
+                                    uint64_t mem);
+struct second_answer second_settle(uint8_t *arena, size_t arena_len,
+                                   uint8_t *record, size_t record_len);
+struct second_fault second_audit(const uint8_t *arena, size_t arena_len,
+                                 const uint8_t *record, size_t record_len);
+
+#endif

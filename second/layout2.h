@@ -1,0 +1,87 @@
+/*
+ * Where things lie: the fields of a chunk in the arena, the words of the
+ * record. No other file of the second program knows.
+ *
+ *      c -> +--------------------------------+
+ *           | previous size                  |  meaningful if P is clear
+ *    c+8 -> +------------------------------+-+
+ *           | size                         |P|  P clear: chunk before binned
+ *   c+16 -> +------------------------------+-+  <- mem
+ *           | forward link, or data          |
+ *   c+24 -> +--------------------------------+
+ *           | back link, or data             |
+ *           .                                .
+ * c+size -> +--------------------------------+
+ *           | this chunk's size, or data     |  usable bytes end 8 further on
+ *           +--------------------------------+
+ */
+#ifndef LAYOUT2_H
+#define LAYOUT2_H
+
+#include <stdint.h>
+#include <string.h>
+
+#define RECORD_WORDS 393
+#define RECORD_BYTES 1572
+#define ARENA_MIN 32
+#define ARENA_MAX 262144
+
+/* All ones mean none, in 32 bits in the record, in 64 bits in a link. */
+#define NONE UINT32_MAX
+#define LINK_NONE UINT64_MAX
+
+#define CACHE_LISTS 64
+#define FAST_LISTS 10
+#define BINS 126
+#define UNSORTED 1
+
+enum field { PREVIOUS_SIZE = 0, SIZE_WORD = 8, FORWARD = 16, BACK = 24 };
+
+enum word {
+    ARENA_LENGTH = 0,
+    TOP = 1,
+    LAST_REMAINDER = 2,
+    CACHE_HEAD = 3,
+    CACHE_COUNT = 67,
+    FAST_HEAD = 131,
+    BIN_FIRST = 139, /* of bin 0, which does not exist; two words a bin */
+    BIN_LAST = 140
+};
+
+#if defined(__BYTE_ORDER__) && __BYTE_ORDER__ == __ORDER_BIG_ENDIAN__
+#define LITTLE32(x) __builtin_bswap32(x)
+#define LITTLE64(x) __builtin_bswap64(x)
+#else
+#define LITTLE32(x) (x)
+#define LITTLE64(x) (x)
+#endif
+
+static inline uint64_t field_get(const uint8_t *arena, uint32_t c,
+                                 enum field f)
+{
+    uint64_t v;
+    memcpy(&v, arena + c + f, sizeof v);
+    return LITTLE64(v);
+}
+
+static inline void field_put(uint8_t *arena, uint32_t c, enum field f,
+                             uint64_t v)
+{
+    v = LITTLE64(v);
+    memcpy(arena + c + f, &v, sizeof v);
+}
+
+static inline uint32_t word_get(const uint8_t *record, unsigned i)
+{
+    uint32_t v;
+    memcpy(&v, record + 4 * (size_t)i, sizeof v);
+    return LITTLE32(v);
+}
+
+static inline void word_put(uint8_t *record, unsigned i, uint32_t v)
+{
+    v = LITTLE32(v);
+    memcpy(record + 4 * (size_t)i, &v, sizeof v);
+}
+
+#endif

@@ -1,0 +1,83 @@
+/*
+ * The layout once more, byte by byte and without the second program's own
+ * helpers, so that a slip in one of the two shows. For tests only.
+ */
+#ifndef PLAIN_H
+#define PLAIN_H
+
+#include <stdbool.h>
+#include <stdint.h>
+
+#define PLAIN_RECORD_BYTES 1572u
+#define PLAIN_ARENA_MAX 262144u
+#define PLAIN_TILES_MAX (PLAIN_ARENA_MAX / 32)
+#define PLAIN_NONE32 0xffffffffu
+#define PLAIN_NONE64 0xffffffffffffffffu
+
+static inline uint64_t plain_get(const uint8_t *at, unsigned bytes)
+{
+    uint64_t v = 0;
+    while (bytes-- > 0)
+        v = v * 256 + at[bytes];
+    return v;
+}
+
+static inline void plain_put(uint8_t *at, unsigned bytes, uint64_t v)
+{
+    for (unsigned i = 0; i < bytes; i++, v /= 256)
+        at[i] = (uint8_t)(v % 256);
+}
+
+static inline uint32_t plain_word(const uint8_t *record, unsigned i)
+{
+    return (uint32_t)plain_get(record + 4 * i, 4);
+}
+
+static inline void plain_put_word(uint8_t *record, unsigned i, uint32_t v)
+{
+    plain_put(record + 4 * i, 4, v);
+}
+
+static inline unsigned plain_cache_head(unsigned k) { return 3 + k; }
+static inline unsigned plain_cache_count(unsigned k) { return 67 + k; }
+static inline unsigned plain_fast_head(unsigned k) { return 131 + k; }
+static inline unsigned plain_bin_first(unsigned i) { return 141 + 2 * (i - 1); }
+static inline unsigned plain_bin_last(unsigned i) { return 142 + 2 * (i - 1); }
+
+/* The bin of a size, in the form of glibc's own macros for 64 bits. */
+static inline unsigned plain_bin(uint64_t s)
+{
+    return s < 1024           ? (unsigned)(s >> 4)
+        : (s >> 6) <= 48      ? 48 + (unsigned)(s >> 6)
+        : (s >> 9) <= 20      ? 91 + (unsigned)(s >> 9)
+        : (s >> 12) <= 10     ? 110 + (unsigned)(s >> 12)
+        : (s >> 15) <= 4      ? 119 + (unsigned)(s >> 15)
+        : (s >> 18) <= 2      ? 124 + (unsigned)(s >> 18)
+                              : 126;
+}
+
+/* What a tile of a sound heap is. */
+enum plain_state {
+    PLAIN_LIVE,
+    PLAIN_CACHED,
+    PLAIN_FAST,
+    PLAIN_BINNED,
+    PLAIN_TOP
+};
+
+struct plain_tile {
+    uint32_t at, size;
+    bool p;
+    enum plain_state state;
+};
+
+struct plain_view {
+    struct plain_tile tile[PLAIN_TILES_MAX];
+    uint32_t tiles;
+};
+
+/* Reads the tiles of a heap that is known to be sound, with their states. */
+void plain_read(struct plain_view *view, const uint8_t *arena, uint32_t length,
+                const uint8_t *record);
+
+#endif

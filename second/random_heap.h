@@ -1,0 +1,56 @@
+/*
+ * Seeded random numbers, random sound heaps written directly as bytes (also
+ * such as no sequence of calls reaches), and damage to them. The same seed
+ * gives the same bytes on every machine.
+ */
+#ifndef RANDOM_HEAP_H
+#define RANDOM_HEAP_H
+
+#include <stdbool.h>
+#include <stddef.h>
+#include <stdint.h>
+
+struct random {
+    uint64_t state;
+};
+
+uint64_t random_next(struct random *r);
+uint32_t random_below(struct random *r, uint32_t n); /* 0 for n = 0 */
+bool random_chance(struct random *r, uint32_t percent);
+void random_bytes(struct random *r, uint8_t *bytes, size_t length);
+
+/* An allowed arena length up to the one given, small ones more often. */
+uint32_t random_length(struct random *r, uint32_t most);
+
+/* Overwrites arena and record with a sound heap. */
+void random_heap(struct random *r, uint8_t *arena, uint32_t length,
+                 uint8_t *record);
+
+/* A rule that a heap breaks throughout, everything else being in order. */
+enum flaw {
+    FLAW_NONE,
+    FLAW_ORDER,      /* large bins in any order */
+    FLAW_NEIGHBOURS, /* binned chunks touch each other */
+    FLAW_TOP,        /* a binned chunk touches the top */
+    FLAW_EIGHT,      /* cache lists of more than 7 */
+    FLAW_HOME,       /* chunks in lists that own other sizes */
+    FLAW_COUNT
+};
+
+/* As random_heap, but free to break that rule; by chance it may not. */
+void flawed_heap(struct random *r, enum flaw flaw, uint8_t *arena,
+                 uint32_t length, uint8_t *record);
+
+/*
+ * Changes one field of a sound heap: a size word, a flag, a link, a head, a
+ * count, a last, the length, the top or a previous size. The heap may by
+ * chance stay sound.
+ */
+void damage_field(struct random *r, uint8_t *arena, uint32_t length,
+                  uint8_t *record);
+
+/* Changes some bytes anywhere, or all of them. */
+void damage_bytes(struct random *r, uint8_t *arena, uint32_t length,
+                  uint8_t *record);
+
+#endif

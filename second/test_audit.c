@@ -1,0 +1,215 @@
+/*
+ * The audit against the slow one of oracle.c, place included, and what the
+ * calls do on heaps that are not sound: answer 3 and write nothing.
+ */
+#include <string.h>
+
+#include "check.h"
+#include "oracle.h"
+#include "plain.h"
+#include "random_heap.h"
+
+/* Long enough for lists of several chunks. */
+static uint32_t random_medium_length(struct random *r)
+{
+    return 8192 + 16 * random_below(r, 2048);
+}
+
+/* Few heaps are long: the oracle's cost grows with the square. */
+static uint32_t random_test_length(struct random *r)
+{
+    if (random_chance(r, 20))
+        return random_medium_length(r);
+    return random_length(r, random_chance(r, 98) ? 16384 : PLAIN_ARENA_MAX);
+}
+
+static bool same_fault(struct second_fault a, struct second_fault b)
+{
+    return a.no == b.no && a.kind == b.kind && a.number == b.number;
+}
+
+static struct second_fault audit_checked(struct lent *l, uint64_t seed)
+{
+    struct second_fault mine = lent_audit(l);
+    struct second_fault slow =
+        oracle_audit(l->arena, l->length, l->record, l->record_len);
+    CHECK(same_fault(mine, slow),
+          "seed %llu: audit says %u %u %u, the slow one %u %u %u",
+          (unsigned long long)seed, mine.no, mine.kind, mine.number, slow.no,
+          slow.kind, slow.number);
+    return mine;
+}
+
+static void sound_heaps(uint32_t rounds)
+{
+    uint64_t seen[4] = { 0 };
+
+    group("random sound heaps pass the audit and the slow audit");
+    for (uint64_t seed = 1; seed <= rounds && !group_failed(); seed++) {
+        struct random r = { seed };
+        struct lent l = lend(random_test_length(&r), 0);
+        random_heap(&r, l.arena, (uint32_t)l.length, l.record);
+        struct second_fault f = audit_checked(&l, seed);
+        CHECK(f.no == 0 && f.kind == SECOND_SOUND,
+              "seed %llu: a heap built sound has fault %u %u",
+              (unsigned long long)seed, f.kind, f.number);
+        static struct plain_view view;
+        plain_read(&view, l.arena, (uint32_t)l.length, l.record);
+        for (uint32_t i = 0; i < view.tiles; i++)
+            if (view.tile[i].state != PLAIN_TOP)
+                seen[view.tile[i].state]++;
+        give_back(&l);
+    }
+    remark(", %llu live, %llu cached, %llu fast, %llu binned chunks",
+           (unsigned long long)seen[PLAIN_LIVE],
+           (unsigned long long)seen[PLAIN_CACHED],
+           (unsigned long long)seen[PLAIN_FAST],
+           (unsigned long long)seen[PLAIN_BINNED]);
+    for (unsigned i = 0; i < 4; i++)
+        CHECK(seen[i] > 0, "the generator never made a chunk of state %u", i);
+}
+
+typedef void damage(struct random *, uint8_t *, uint32_t, uint8_t *);
+
+static void damaged_heaps(const char *name, damage *harm, uint64_t seeds,
+                          uint32_t rounds)
+{
+    uint64_t kinds[7] = { 0 };
+
+    group(name);
+    for (uint64_t i = 1; i <= rounds && !group_failed(); i++) {
+        struct random r = { seeds + i };
+        struct lent l = lend(random_test_length(&r), 0);
+        random_heap(&r, l.arena, (uint32_t)l.length, l.record);
+        harm(&r, l.arena, (uint32_t)l.length, l.record);
+        kinds[audit_checked(&l, seeds + i).kind]++;
+        give_back(&l);
+    }
+    for (unsigned k = 0; k < 7; k++) {
+        remark("%s %u of kind %u", k == 0 ? ", found" : ",", (unsigned)kinds[k],
+               k);
+        CHECK(kinds[k] > 0, "no heap with a fault of kind %u was met", k);
+    }
+}
+
+/* One rule broken in a heap that is otherwise in order. */
+static void flawed_heaps(uint32_t rounds)
+{
+    uint64_t found[FLAW_COUNT] = { 0 }, seeds = 1u << 22;
+
+    group("heaps that break one rule throughout: audit and slow audit agree");
+    for (uint64_t i = 1; i <= rounds && !group_failed(); i++) {
+        struct random r = { seeds + i };
+        struct lent l = lend(random_medium_length(&r), 0);
+        enum flaw flaw = 1 + random_below(&r, FLAW_COUNT - 1);
+        flawed_heap(&r, flaw, l.arena, (uint32_t)l.length, l.record);
+        found[flaw] += audit_checked(&l, seeds + i).kind != SECOND_SOUND;
+        give_back(&l);
+    }
+    for (unsigned flaw = 1; flaw < FLAW_COUNT; flaw++) {
+        remark("%s %u of flaw %u", flaw == 1 ? ", found" : ",",
+               (unsigned)found[flaw], flaw);
+        CHECK(found[flaw] > 0, "flaw %u was never found", flaw);
+    }
+}
+
+static void expect_refused(struct lent *l, const struct lent *before,
+                           struct second_answer a, uint32_t no,
+                           const char *call, uint64_t seed)
+{
+    CHECK(a.no == no && a.mem == 0 && a.usable == 0,
+          "seed %llu: %s answers %u %u %u, not %u 0 0",
+          (unsigned long long)seed, call, a.no, a.mem, a.usable, no);
+    CHECK(same_arena(l, before) && same_record(l, before),
+          "seed %llu: %s refused with %u but wrote",
+          (unsigned long long)seed, call, no);
+}
+
+static void try_calls(struct random *r, struct lent *l, struct lent *before,
+                      uint64_t seed)
+{
+    uint64_t n = random_below(r, random_chance(r, 80) ? 2000 : 262145);
+    uint64_t mem = 16 * (uint64_t)random_below(r, (uint32_t)l->length / 16 + 2);
+
+    copy_lent(before, l);
+    expect_refused(l, before, lent_grant(l, n), 3, "grant", seed);
+    expect_refused(l, before, lent_grant(l, 262145 + n), 2, "grant", seed);
+    expect_refused(l, before, lent_release(l, mem), 3, "release", seed);
+    expect_refused(l, before, lent_release(l, 0), 3, "release of null", seed);
+    expect_refused(l, before, lent_settle(l), 3, "settle", seed);
+}
+
+static void calls_on_unsound(uint32_t rounds)
+{
+    uint32_t unsound = 0;
+
+    group("calls on unsound heaps answer 3 (a huge request 2), write nothing");
+    for (uint64_t seed = 1; seed <= rounds && !group_failed(); seed++) {
+        struct random r = { seed << 32 };
+        struct lent l = lend(random_test_length(&r), 0);
+        struct lent before = lend(l.length, 0);
+        random_heap(&r, l.arena, (uint32_t)l.length, l.record);
+        if (random_chance(&r, 70))
+            damage_field(&r, l.arena, (uint32_t)l.length, l.record);
+        else
+            damage_bytes(&r, l.arena, (uint32_t)l.length, l.record);
+        if (!lent_sound(&l)) {
+            unsound++;
+            try_calls(&r, &l, &before, seed);
+        }
+        give_back(&before);
+        give_back(&l);
+    }
+    remark(", %u unsound heaps", unsound);
+    CHECK(unsound > rounds / 4, "only %u heaps of %u were unsound", unsound,
+          rounds);
+}
+
+/* Bytes that hold no heap at all, in every shape a caller could pass. */
+static void any_bytes(uint32_t rounds)
+{
+    group("any bytes of any length are taken, and shape comes first");
+    for (uint64_t seed = 1; seed <= rounds && !group_failed(); seed++) {
+        struct random r = { ~seed };
+        struct lent l = lend(random_below(&r, 300), 0);
+        struct lent before = lend(l.length, 0);
+        random_bytes(&r, l.arena, l.length);
+        random_bytes(&r, l.record, l.record_len);
+        if (random_chance(&r, 50))
+            l.record_len = random_below(&r, PLAIN_RECORD_BYTES + 1);
+        bool shaped = l.length >= 32 && l.length % 16 == 0
+            && l.record_len == PLAIN_RECORD_BYTES;
+        if (shaped && random_chance(&r, 70))
+            plain_put_word(l.record, 0, (uint32_t)l.length);
+        struct second_fault f = audit_checked(&l, seed);
+        CHECK((f.no == 1) == !shaped, "seed %llu: shape judged %u",
+              (unsigned long long)seed, f.no);
+        if (f.no == 1) {
+            copy_lent(&before, &l);
+            expect_refused(&l, &before, lent_grant(&l, 262145), 1, "grant",
+                           seed);
+            expect_refused(&l, &before, lent_release(&l, 0), 1, "release",
+                           seed);
+            expect_refused(&l, &before, lent_settle(&l), 1, "settle", seed);
+        } else if (f.kind != SECOND_SOUND) {
+            try_calls(&r, &l, &before, seed);
+        }
+        give_back(&before);
+        give_back(&l);
+    }
+}
+
+int main(int argc, char **argv)
+{
+    uint32_t share = share_of(argc, argv);
+
+    sound_heaps(40000 / share);
+    damaged_heaps("heaps with one flaw: audit and slow audit agree",
+                  damage_field, 1u << 20, 100000 / share);
+    damaged_heaps("heaps with random bytes: audit and slow audit agree",
+                  damage_bytes, 1u << 21, 50000 / share);
+    flawed_heaps(20000 / share);
+    calls_on_unsound(40000 / share);
+    any_bytes(40000 / share);
+    return finish();
+}

@@ -1,0 +1,470 @@
+/*
+ * Random calls, valid and not, on newly opened arenas and on random sound
+ * heaps, with holders that write random bytes in their blocks. After every
+ * call the heap is audited and held against a model that knows only which
+ * blocks were granted and what their holders wrote.
+ */
+#include <stdio.h>
+#include <stdlib.h>
+#include <string.h>
+
+#include "check.h"
+#include "plain.h"
+#include "random_heap.h"
+
+struct held {
+    uint32_t mem, usable;
+};
+
+struct model {
+    struct random r;
+    uint64_t seed;
+    struct lent heap;
+    struct lent before;  /* both buffers as they were before the call */
+    uint8_t *owned;      /* one byte for each of the arena: 1 in a held block */
+    struct held *block;
+    uint32_t blocks;
+    uint32_t palette[4];
+    uint32_t grant_percent;
+    uint32_t calls, refused[6];
+};
+
+static struct plain_view view;
+
+/* What same_everywhere must come to; it moves only with the generator. */
+#define SAME_EVERYWHERE 0x0f1fb0ff2c707e51u
+
+#define EXPECT(m, good, text) \
+    CHECK(good, "seed %llu, call %u: %s", (unsigned long long)(m)->seed, \
+          (m)->calls, text)
+
+/* ---- the model ---- */
+
+static struct model model_new(uint64_t seed, uint32_t most)
+{
+    struct model m = { .r = { seed }, .seed = seed };
+    uint32_t length = random_length(&m.r, most);
+
+    m.heap = lend(length, 0);
+    m.before = lend(length, 0);
+    m.owned = calloc(length, 1);
+    m.block = calloc(PLAIN_TILES_MAX, sizeof *m.block);
+    if (m.owned == NULL || m.block == NULL) {
+        fputs("no memory for the test's own buffers\n", stderr);
+        exit(2);
+    }
+    for (unsigned i = 0; i < 4; i++)
+        m.palette[i] = random_below(
+            &m.r, i < 2 ? 120 : length < 16384 ? 40 + length / 8 : 2000);
+    m.grant_percent = 40 + random_below(&m.r, 25);
+    return m;
+}
+
+static void model_free(struct model *m)
+{
+    give_back(&m->heap);
+    give_back(&m->before);
+    free(m->owned);
+    free(m->block);
+}
+
+static void hold(struct model *m, uint32_t mem, uint32_t usable)
+{
+    bool inside = mem >= 16 && mem % 16 == 0 && usable <= m->heap.length
+        && mem <= m->heap.length - usable;
+    EXPECT(m, inside, "a block does not lie in the arena, or at no multiple");
+    if (!inside)
+        return;
+    EXPECT(m, memchr(m->owned + mem, 1, usable) == NULL,
+           "a block overlaps another that is held");
+    memset(m->owned + mem, 1, usable);
+    m->block[m->blocks++] = (struct held){ mem, usable };
+}
+
+static void let_go(struct model *m, uint32_t i)
+{
+    memset(m->owned + m->block[i].mem, 0, m->block[i].usable);
+    m->block[i] = m->block[--m->blocks];
+}
+
+/* Random bytes over the usable bytes, from none of them to all. */
+static void holder_writes(struct model *m, const struct held *block)
+{
+    uint32_t from = random_chance(&m->r, 60)
+        ? 0 : random_below(&m->r, block->usable);
+    uint32_t length = random_chance(&m->r, 60)
+        ? block->usable - from : random_below(&m->r, block->usable - from);
+    random_bytes(&m->r, m->heap.arena + block->mem + from, length);
+}
+
+/* ---- what holds after every call ---- */
+
+static void bytes_unchanged(struct model *m, uint32_t blocks)
+{
+    for (uint32_t i = 0; i < blocks; i++)
+        EXPECT(m,
+               memcmp(m->heap.arena + m->block[i].mem,
+                      m->before.arena + m->block[i].mem,
+                      m->block[i].usable) == 0,
+               "a held block's bytes changed");
+}
+
+/* Live by the heap's bytes is the same as granted and not yet released. */
+static void live_is_held(struct model *m)
+{
+    uint32_t live = 0;
+    plain_read(&view, m->heap.arena, (uint32_t)m->heap.length, m->heap.record);
+    for (uint32_t i = 0; i < view.tiles; i++) {
+        const struct plain_tile *t = &view.tile[i];
+        bool held = t->state != PLAIN_TOP && m->owned[t->at + 16] == 1
+            && m->owned[t->at + t->size + 7] == 1;
+        live += t->state == PLAIN_LIVE;
+        EXPECT(m, (t->state == PLAIN_LIVE) == held,
+               "a live block is not held, or a held one is not live");
+    }
+    EXPECT(m, live == m->blocks, "another number of blocks is live than held");
+}
+
+/* A block just granted was not live before, so its bytes may be new. */
+static void after_call(struct model *m, bool granted)
+{
+    EXPECT(m, lent_sound(&m->heap), "the heap is no longer sound");
+    if (group_failed())
+        return;
+    bytes_unchanged(m, m->blocks - (granted ? 1 : 0));
+    live_is_held(m);
+}
+
+static void refused(struct model *m, struct second_answer a)
+{
+    m->refused[a.no <= 5 ? a.no : 0]++;
+    EXPECT(m, a.mem == 0 && a.usable == 0, "a refusal hands numbers back");
+    if (a.no == 5)
+        return;
+    EXPECT(m, same_arena(&m->heap, &m->before)
+                  && same_record(&m->heap, &m->before),
+           "a refusal with 1 to 4 wrote");
+}
+
+/* A refusal with 5 comes after sorting and joining, and leaves the cache. */
+static void refused_for_room(struct model *m)
+{
+    const uint8_t *record = m->heap.record;
+    for (unsigned k = 0; k < 10; k++)
+        EXPECT(m, plain_word(record, plain_fast_head(k)) == PLAIN_NONE32,
+               "refused with 5 while a fast list holds a chunk");
+    EXPECT(m, plain_word(record, plain_bin_first(1)) == PLAIN_NONE32,
+           "refused with 5 while unsorted holds a chunk");
+    EXPECT(m, memcmp(record + 8, m->before.record + 8, 4 * 129) == 0,
+           "refused with 5 and changed last remainder or cache");
+}
+
+/* Demand 3: no free chunk touches another, and nothing waits in a list. */
+static void after_settle(struct model *m)
+{
+    for (uint32_t i = 0; i < view.tiles; i++) {
+        enum plain_state state = view.tile[i].state;
+        EXPECT(m, state != PLAIN_CACHED && state != PLAIN_FAST,
+               "a chunk is still cached or fast after a settle");
+        EXPECT(m, i == 0 || state == PLAIN_LIVE
+                      || view.tile[i - 1].state == PLAIN_LIVE,
+               "two free chunks touch after a settle");
+    }
+    EXPECT(m, plain_word(m->heap.record, 2) == PLAIN_NONE32,
+           "the last remainder outlives a settle");
+    if (m->blocks > 0)
+        return;
+    struct lent fresh = lend(m->heap.length, 0);
+    lent_open(&fresh);
+    EXPECT(m, view.tiles == 1 && same_record(&m->heap, &fresh),
+           "settled without blocks, but not as newly opened");
+    give_back(&fresh);
+}
+
+/* ---- the calls ---- */
+
+static uint64_t random_request(struct model *m)
+{
+    uint32_t length = (uint32_t)m->heap.length;
+    switch (random_below(&m->r, length < 4096 ? 6 : 10)) {
+    case 0: case 1: return random_below(&m->r, 130);
+    case 2: return random_below(&m->r, length / 16);
+    case 3:
+        return random_chance(&m->r, 70) ? random_below(&m->r, length / 4)
+            : random_chance(&m->r, 80)  ? random_below(&m->r, length)
+            : random_chance(&m->r, 50)  ? 262140 + random_below(&m->r, 10)
+                                        : random_next(&m->r);
+    case 6: return 980 + random_below(&m->r, 80);
+    case 7: return random_below(&m->r, 1100);
+    default: return m->palette[random_below(&m->r, 4)];
+    }
+}
+
+static void call_grant(struct model *m, uint64_t n)
+{
+    struct second_answer a = lent_grant(&m->heap, n);
+    if (a.no == 0) {
+        EXPECT(m, a.usable >= n && a.usable % 16 == 8,
+               "a grant is too short for its request");
+        hold(m, a.mem, a.usable);
+    } else {
+        EXPECT(m, a.no == (n > 262144 ? 2 : 5), "a grant refused wrongly");
+        refused(m, a);
+        if (a.no == 5)
+            refused_for_room(m);
+    }
+    after_call(m, a.no == 0);
+    if (a.no == 0 && !group_failed() && random_chance(&m->r, 80))
+        holder_writes(m, &m->block[m->blocks - 1]);
+}
+
+static uint64_t random_mem(struct model *m)
+{
+    uint32_t near = random_below(&m->r, (uint32_t)m->heap.length + 64);
+    switch (random_below(&m->r, 4)) {
+    case 0: return near;
+    case 1: return near & ~15u;
+    case 2: return random_next(&m->r);
+    default:
+        return m->blocks == 0 ? 0
+            : ((uint64_t)1 << (32 + random_below(&m->r, 32)))
+                + m->block[random_below(&m->r, m->blocks)].mem;
+    }
+}
+
+static void call_release(struct model *m, uint64_t mem)
+{
+    uint32_t i = 0;
+    while (i < m->blocks && m->block[i].mem != mem)
+        i++;
+    struct second_answer a = lent_release(&m->heap, mem);
+    bool held = i < m->blocks;
+    EXPECT(m, a.no == (held || mem == 0 ? 0 : 4), "a release answers wrongly");
+    if (held) {
+        EXPECT(m, a.mem == 0 && a.usable == 0, "a release hands numbers back");
+        let_go(m, i);
+    } else {
+        refused(m, a); /* null is no refusal, but writes nothing either */
+    }
+    after_call(m, false);
+    if (held && random_chance(&m->r, 5) && !group_failed()) {
+        copy_lent(&m->before, &m->heap);
+        refused(m, lent_release(&m->heap, mem));
+        EXPECT(m, m->refused[4] > 0, "a double release was not refused");
+    }
+}
+
+static void call_settle(struct model *m)
+{
+    struct second_answer a = lent_settle(&m->heap);
+    EXPECT(m, a.no == 0 && a.mem == 0 && a.usable == 0, "a settle was refused");
+    after_call(m, false);
+    if (!group_failed())
+        after_settle(m);
+}
+
+static void call_with_bad_shape(struct model *m)
+{
+    struct lent *h = &m->heap;
+    size_t length = h->length, record_len = h->record_len;
+    if (random_chance(&m->r, 50))
+        h->length -= 1 + random_below(&m->r, 15);
+    else
+        h->record_len = random_below(&m->r, PLAIN_RECORD_BYTES);
+    struct second_answer a = random_chance(&m->r, 50)
+        ? lent_grant(h, random_below(&m->r, 300000)) : lent_settle(h);
+    h->length = length;
+    h->record_len = record_len;
+    EXPECT(m, a.no == 1, "a bad shape was not refused with 1");
+    refused(m, a);
+    after_call(m, false);
+}
+
+/* Many releases in a row, as at the end of a job. */
+static void call_burst(struct model *m)
+{
+    uint32_t keep = random_chance(&m->r, 20) ? 0 : random_below(&m->r, 8);
+    while (m->blocks > keep && !group_failed()) {
+        copy_lent(&m->before, &m->heap);
+        call_release(m, m->block[random_below(&m->r, m->blocks)].mem);
+        m->calls++;
+    }
+}
+
+static void random_call(struct model *m)
+{
+    uint32_t drawn = random_below(&m->r, 1000);
+
+    copy_lent(&m->before, &m->heap);
+    if (drawn < 10)
+        call_with_bad_shape(m);
+    else if (drawn < 25)
+        call_settle(m);
+    else if (drawn < 70)
+        call_release(m, random_mem(m));
+    else if (drawn < 80)
+        call_release(m, 0);
+    else if (drawn < 87)
+        call_burst(m);
+    else if (m->blocks == 0 || random_chance(&m->r, m->grant_percent))
+        call_grant(m, random_request(m));
+    else
+        call_release(m, m->block[random_below(&m->r, m->blocks)].mem);
+    m->calls++;
+    if (m->blocks > 0 && !group_failed())
+        holder_writes(m, &m->block[random_below(&m->r, m->blocks)]);
+}
+
+static void add_counts(uint64_t *sum, const struct model *m)
+{
+    sum[0] += m->calls;
+    for (unsigned no = 1; no <= 5; no++)
+        sum[no] += m->refused[no];
+}
+
+static void tell_counts(const uint64_t *sum)
+{
+    remark(", %llu calls, refused with 1: %llu, 2: %llu, 4: %llu, 5: %llu",
+           (unsigned long long)sum[0], (unsigned long long)sum[1],
+           (unsigned long long)sum[2], (unsigned long long)sum[4],
+           (unsigned long long)sum[5]);
+}
+
+static void sequences(const char *name, bool opened, uint32_t most,
+                      uint32_t rounds, uint32_t calls)
+{
+    uint64_t sum[6] = { 0 };
+
+    group(name);
+    for (uint64_t seed = 1; seed <= rounds && !group_failed(); seed++) {
+        struct model m = model_new(seed + ((uint64_t)most << 32), most);
+        if (opened) {
+            random_bytes(&m.r, m.heap.arena, m.heap.length);
+            EXPECT(&m, lent_open(&m.heap).no == 0, "open refused");
+        } else {
+            random_heap(&m.r, m.heap.arena, (uint32_t)m.heap.length,
+                        m.heap.record);
+            plain_read(&view, m.heap.arena, (uint32_t)m.heap.length,
+                       m.heap.record);
+            for (uint32_t i = 0; i < view.tiles; i++)
+                if (view.tile[i].state == PLAIN_LIVE)
+                    hold(&m, view.tile[i].at + 16, view.tile[i].size - 8);
+        }
+        while (m.calls < calls && !group_failed())
+            random_call(&m);
+        add_counts(sum, &m);
+        model_free(&m);
+    }
+    tell_counts(sum);
+}
+
+/* ---- answers do not depend on bytes that mean nothing ---- */
+
+/* Draws the same call for both; every byte they may differ in does. */
+static void twin_call(struct model *a, struct model *b)
+{
+    bool grant = a->blocks == 0 || random_chance(&a->r, 55);
+    struct second_answer left, right;
+
+    if (random_chance(&a->r, 2)) {
+        left = lent_settle(&a->heap);
+        right = lent_settle(&b->heap);
+    } else if (grant) {
+        uint64_t n = random_request(a);
+        left = lent_grant(&a->heap, n);
+        right = lent_grant(&b->heap, n);
+        if (left.no == 0)
+            hold(a, left.mem, left.usable);
+    } else {
+        uint32_t i = random_below(&a->r, a->blocks);
+        left = lent_release(&a->heap, a->block[i].mem);
+        right = lent_release(&b->heap, a->block[i].mem);
+        let_go(a, i);
+    }
+    a->calls++;
+    EXPECT(a, left.no == right.no && left.mem == right.mem
+                  && left.usable == right.usable,
+           "twins answer differently");
+    EXPECT(a, same_record(&a->heap, &b->heap), "twins' records differ");
+    if (left.no == 0 && left.mem != 0) {
+        random_bytes(&a->r, a->heap.arena + left.mem, left.usable);
+        random_bytes(&b->r, b->heap.arena + left.mem, left.usable);
+    }
+}
+
+static void twins(uint32_t rounds)
+{
+    uint64_t sum[6] = { 0 };
+
+    group("answers and record do not depend on holders' or stale bytes");
+    for (uint64_t seed = 1; seed <= rounds && !group_failed(); seed++) {
+        struct model a = model_new(seed, 32768), b = model_new(seed, 32768);
+        b.r.state += 12345;
+        random_bytes(&a.r, a.heap.arena, a.heap.length);
+        random_bytes(&b.r, b.heap.arena, b.heap.length);
+        lent_open(&a.heap);
+        lent_open(&b.heap);
+        while (a.calls < 300 && !group_failed())
+            twin_call(&a, &b);
+        add_counts(sum, &a);
+        model_free(&a);
+        model_free(&b);
+    }
+    remark(", %llu calls", (unsigned long long)sum[0]);
+}
+
+/* ---- the same on every machine ---- */
+
+static uint64_t mix(uint64_t hash, const uint8_t *bytes, size_t length)
+{
+    for (size_t i = 0; i < length; i++)
+        hash = (hash ^ bytes[i]) * 0x100000001b3u; /* FNV-1a */
+    return hash;
+}
+
+/* All bytes of 300 random heaps, before and after some calls, in one number. */
+static void same_everywhere(void)
+{
+    uint64_t hash = 0xcbf29ce484222325u;
+
+    group("the same seeds give the same bytes on every machine");
+    for (uint64_t seed = 1; seed <= 300 && !group_failed(); seed++) {
+        struct model m = model_new(seed, 32768);
+        struct lent *h = &m.heap;
+        random_heap(&m.r, h->arena, (uint32_t)h->length, h->record);
+        for (unsigned i = 0; i < 10; i++) {
+            hash = mix(hash, h->arena, h->length);
+            hash = mix(hash, h->record, h->record_len);
+            struct second_answer a = lent_grant(h, random_request(&m));
+            if (i % 2 == 0)
+                lent_release(h, a.mem);
+            if (i == 7)
+                lent_settle(h);
+        }
+        damage_field(&m.r, h->arena, (uint32_t)h->length, h->record);
+        damage_bytes(&m.r, h->arena, (uint32_t)h->length, h->record);
+        hash = mix(hash, h->arena, h->length);
+        hash = mix(hash, h->record, h->record_len);
+        model_free(&m);
+    }
+    CHECK(hash == SAME_EVERYWHERE, "the number is 0x%016llx, not 0x%016llx",
+          (unsigned long long)hash, (unsigned long long)SAME_EVERYWHERE);
+}
+
+int main(int argc, char **argv)
+{
+    uint32_t share = share_of(argc, argv);
+
+    same_everywhere();
+
+    sequences("random calls from a newly opened arena", true, 8192,
+              1000 / share, 500);
+    sequences("random calls in arenas up to the largest", true,
+              PLAIN_ARENA_MAX, 120 / share, 500);
+    sequences("random calls from random sound heaps", false, 8192,
+              20000 / share, 12);
+    sequences("random calls from random large heaps", false, PLAIN_ARENA_MAX,
+              600 / share, 12);
+    twins(400 / share);
+    return finish();
+}

@@ -1,0 +1,609 @@
+/*
+ * Document 01's figures, and traces for the places that are easy to get
+ * wrong. Every expected number here was worked out by hand from the document.
+ */
+#include <string.h>
+
+#include "check.h"
+#include "plain.h"
+
+#define NONE PLAIN_NONE32
+
+static struct lent l;
+
+static void start(uint32_t length)
+{
+    l = lend(length, 0xa5);
+    struct second_answer a = lent_open(&l);
+    CHECK(a.no == 0 && a.mem == 0 && a.usable == 0, "open of %u answers %u",
+          length, a.no);
+    CHECK(lent_sound(&l), "a newly opened arena of %u is not sound", length);
+}
+
+static void stop(void)
+{
+    give_back(&l);
+}
+
+static void answers(const char *call, struct second_answer a, uint32_t no,
+                    uint32_t mem, uint32_t usable)
+{
+    CHECK(a.no == no && a.mem == mem && a.usable == usable,
+          "%s answers %u %u %u, not %u %u %u", call, a.no, a.mem, a.usable, no,
+          mem, usable);
+    CHECK(lent_sound(&l), "not sound after %s", call);
+}
+
+static void grants(uint64_t n, uint32_t mem, uint32_t usable)
+{
+    answers("grant", lent_grant(&l, n), 0, mem, usable);
+}
+
+static void refuses(uint64_t n, uint32_t no)
+{
+    answers("grant", lent_grant(&l, n), no, 0, 0);
+}
+
+static void releases(uint64_t mem)
+{
+    answers("release", lent_release(&l, mem), 0, 0, 0);
+}
+
+static void settles(void)
+{
+    answers("settle", lent_settle(&l), 0, 0, 0);
+}
+
+static void word_is(const char *name, unsigned word, uint32_t expected)
+{
+    uint32_t v = plain_word(l.record, word);
+    CHECK(v == expected, "%s is %u, not %u", name, v, expected);
+}
+
+static void cache_is(unsigned k, uint32_t head, uint32_t count)
+{
+    word_is("cache head", plain_cache_head(k), head);
+    word_is("cache count", plain_cache_count(k), count);
+}
+
+static void bin_is(unsigned bin, uint32_t first, uint32_t last)
+{
+    word_is("first of bin", plain_bin_first(bin), first);
+    word_is("last of bin", plain_bin_last(bin), last);
+}
+
+static void eight_is(uint32_t at, uint64_t expected)
+{
+    uint64_t v = plain_get(l.arena + at, 8);
+    CHECK(v == expected, "the number at %u is %llu, not %llu", at,
+          (unsigned long long)v, (unsigned long long)expected);
+}
+
+/* ---- figures ---- */
+
+static void request_sizes(void)
+{
+    static const uint32_t figure[][2] = {
+        { 0, 32 }, { 24, 32 }, { 25, 48 }, { 40, 48 }, { 41, 64 },
+        { 120, 128 }, { 121, 144 }, { 1032, 1040 }, { 1033, 1056 }
+    };
+
+    group("requests need the chunk sizes of the boundary figures");
+    for (unsigned i = 0; i < sizeof figure / sizeof figure[0]; i++) {
+        uint32_t size = figure[i][1];
+        start(4096);
+        grants(figure[i][0], 16, size - 8);
+        word_is("top", 1, size);
+        grants(0, size + 16, 24);
+        releases(16);
+        if (size <= 1040) {
+            cache_is((size - 32) / 16, 0, 1);
+            bin_is(1, NONE, NONE);
+        } else {
+            bin_is(1, 0, 0);
+        }
+        stop();
+    }
+    start(4096);
+    grants(1032, 16, 1032);
+    releases(16);
+    cache_is(63, 0, 1);
+    stop();
+}
+
+/* Fills the size's cache list, releases one more, and has it sorted. */
+static void lands_in_bin(uint32_t size, unsigned bin)
+{
+    uint32_t blocks = size <= 1040 ? 8 : 1;
+
+    start(262144);
+    for (uint32_t i = 0; i < blocks; i++) {
+        grants(size - 8, i * (size + 32) + 16, size - 8);
+        grants(24, i * (size + 32) + size + 16, 24);
+    }
+    for (uint32_t i = 0; i < blocks; i++)
+        releases(i * (size + 32) + 16);
+    uint32_t c = (blocks - 1) * (size + 32);
+    bin_is(1, c, c);
+    refuses(262144, 5);
+    bin_is(1, NONE, NONE);
+    bin_is(bin, c, c);
+    stop();
+}
+
+static void bin_numbers(void)
+{
+    static const uint32_t figure[][2] = {
+        { 1008, 63 }, { 1024, 64 }, { 3120, 96 }, { 3136, 97 },
+        { 45040, 120 }, { 45056, 120 }, { 10736, 111 }, { 10752, 112 },
+        { 163824, 123 }, { 163840, 124 }, { 144, 9 }, { 262080, 124 }
+    };
+
+    group("sizes land in the bins of the boundary figures");
+    for (unsigned i = 0; i < sizeof figure / sizeof figure[0]; i++)
+        lands_in_bin(figure[i][0], figure[i][1]);
+}
+
+static void eight_released(void)
+{
+    group("eight live 32-byte chunks released: seven cached, one fast");
+    start(1024);
+    for (uint32_t i = 0; i < 8; i++)
+        grants(24, 32 * i + 16, 24);
+    for (uint32_t i = 0; i < 8; i++)
+        releases(32 * i + 16);
+    cache_is(0, 192, 7);
+    word_is("fast head 0", plain_fast_head(0), 224);
+    word_is("top", 1, 256);
+    eight_is(224 + 16, PLAIN_NONE64);
+    eight_is(192 + 16, 160);
+    eight_is(256 + 8, 1024 - 256 + 1);
+    grants(24, 208, 24);
+    settles();
+    word_is("top", 1, 224);
+    stop();
+}
+
+/* ---- opening and shapes ---- */
+
+static void refused_open(size_t length, size_t record_len)
+{
+    struct lent bytes = lend(length, 0x5a), before = lend(length, 0x5a);
+
+    bytes.record_len = record_len;
+    struct second_answer a = lent_open(&bytes);
+    CHECK(a.no == 1 && a.mem == 0 && a.usable == 0,
+          "open of %zu with a record of %zu answers %u", length, record_len,
+          a.no);
+    CHECK(same_arena(&bytes, &before), "a refused open wrote in the arena");
+    if (record_len != PLAIN_RECORD_BYTES)
+        CHECK(same_record(&bytes, &before), "a record of %zu bytes was written",
+              record_len);
+    for (unsigned i = 0; record_len == PLAIN_RECORD_BYTES && i < 393; i++)
+        CHECK(plain_word(bytes.record, i)
+                  == (i == 0 || (i >= 67 && i < 131) ? 0 : NONE),
+              "word %u of a refused open's record", i);
+    give_back(&bytes);
+    give_back(&before);
+}
+
+static void opened(uint32_t length)
+{
+    start(length);
+    for (unsigned i = 0; i < 393; i++) {
+        uint32_t zero = i == 1 || (i >= 67 && i < 131);
+        word_is("opened word", i, i == 0 ? length : zero ? 0 : NONE);
+    }
+    eight_is(8, length + 1);
+    for (uint32_t i = 0; i < length; i++)
+        CHECK(l.arena[i] == 0xa5 || (i >= 8 && i < 16),
+              "open wrote the byte at %u", i);
+}
+
+static void opens(void)
+{
+    static const uint32_t good[] = { 32, 48, 64, 80, 256, 49152, 262144 };
+    static const size_t bad[] = { 0, 1, 8, 16, 31, 33, 40, 56, 100, 262128 + 8,
+                                  262145, 262160, 524288 };
+
+    group("allowed arenas open, with bytes 8 to 15 and the record written");
+    for (unsigned i = 0; i < sizeof good / sizeof good[0]; i++) {
+        opened(good[i]);
+        stop();
+    }
+    group("other shapes are refused, and leave what document 01 says");
+    for (unsigned i = 0; i < sizeof bad / sizeof bad[0]; i++) {
+        refused_open(bad[i], PLAIN_RECORD_BYTES);
+        refused_open(bad[i], 1571);
+    }
+    refused_open(256, 1571);
+    refused_open(256, 0);
+
+    group("a closed record makes later calls answer 3");
+    start(256);
+    CHECK(second_open(l.arena, 255, l.record, l.record_len).no == 1,
+          "an arena of 255 bytes was opened");
+    CHECK(lent_audit(&l).kind == SECOND_RECORD, "a closed record is sound");
+    CHECK(lent_grant(&l, 24).no == 3 && lent_release(&l, 0).no == 3
+              && lent_settle(&l).no == 3,
+          "a call on a closed record was not refused with 3");
+    stop();
+}
+
+static void small_arenas(void)
+{
+    group("arenas of 32 and 48 grant nothing, 64 and 80 one block at a time");
+    for (uint32_t length = 32; length <= 48; length += 16) {
+        start(length);
+        refuses(0, 5);
+        refuses(24, 5);
+        settles();
+        stop();
+    }
+    for (uint32_t length = 64; length <= 80; length += 16) {
+        start(length);
+        grants(24, 16, 24);
+        refuses(0, 5);
+        releases(16);
+        refuses(25, 5);
+        settles();
+        if (length == 80)
+            grants(40, 16, 40);
+        else
+            refuses(40, 5);
+        stop();
+    }
+}
+
+static void largest_arena(void)
+{
+    group("in 262,144 bytes the largest grant is 262,104");
+    start(262144);
+    refuses(262145, 2);
+    refuses(UINT64_MAX, 2);
+    refuses(UINT64_MAX - 22, 2);
+    refuses(((uint64_t)1 << 32) + 24, 2);
+    refuses(262144, 5);
+    refuses(262105, 5);
+    grants(262104, 16, 262104);
+    word_is("top", 1, 262112);
+    refuses(0, 5);
+    releases(16);
+    word_is("top", 1, 0);
+    eight_is(8, 262145);
+    stop();
+}
+
+static void not_live(void)
+{
+    static const uint64_t mem[] = { 1, 8, 15, 17, 32, 40, 64, 96, 128, 1024,
+                                    1040, 1008, ((uint64_t)1 << 32) + 16,
+                                    UINT64_MAX, UINT64_MAX - 15, NONE };
+
+    group("a mem that is no live block's is refused with 4, null is not");
+    start(1024);
+    grants(24, 16, 24); /* and one chunk cached, one live behind it */
+    grants(24, 48, 24);
+    grants(24, 80, 24);
+    releases(48);
+    struct lent before = lend(1024, 0);
+    copy_lent(&before, &l);
+    for (unsigned i = 0; i < sizeof mem / sizeof mem[0]; i++)
+        answers("release", lent_release(&l, mem[i]), 4, 0, 0);
+    answers("release", lent_release(&l, 48), 4, 0, 0);
+    answers("release", lent_release(&l, 112), 4, 0, 0);
+    releases(0);
+    CHECK(same_arena(&l, &before) && same_record(&l, &before),
+          "a refused release or one of null wrote");
+    give_back(&before);
+    stop();
+}
+
+/* ---- traces ---- */
+
+static void split_with_one_cached(void)
+{
+    group("step 5 splits the last remainder while one is cached");
+    start(8192);
+    for (uint32_t i = 0; i < 8; i++)
+        grants(200, 208 * i + 16, 200);
+    grants(24, 1680, 24);
+    grants(1500, 1712, 1512);
+    grants(1200, 3232, 1208);
+    grants(24, 4448, 24);
+    releases(1712);
+    for (uint32_t i = 0; i < 7; i++)
+        releases(208 * i + 16);
+    grants(300, 1712, 312);
+    word_is("last remainder", 2, 2016);
+    releases(1472);
+    releases(3232);
+    for (uint32_t i = 0; i < 7; i++)
+        grants(200, 208 * (6 - i) + 16, 200);
+    cache_is(11, NONE, 0);
+    grants(200, 2032, 200);
+    cache_is(11, 1456, 1);
+    word_is("last remainder", 2, 2224);
+    bin_is(1, 2224, 2224);
+    stop();
+}
+
+/* Blocks of 208 bytes, each with a live one of 32 behind it. */
+static uint32_t fenced(uint32_t i)
+{
+    return 240 * i;
+}
+
+static void release_fenced(uint32_t count)
+{
+    start(8192);
+    for (uint32_t i = 0; i < count; i++) {
+        grants(200, fenced(i) + 16, 200);
+        grants(24, fenced(i) + 208 + 16, 24);
+    }
+    for (uint32_t i = 0; i < count; i++)
+        releases(fenced(i) + 16);
+    cache_is(11, fenced(6), 7);
+    for (uint32_t i = 0; i < 7; i++)
+        grants(200, fenced(6 - i) + 16, 200);
+    bin_is(1, fenced(count - 1), fenced(7));
+}
+
+static void eighth_granted(void)
+{
+    group("step 5 caches seven equals, grants the eighth, stops");
+    release_fenced(16);
+    grants(200, fenced(14) + 16, 200);
+    cache_is(11, fenced(13), 7);
+    bin_is(1, fenced(15), fenced(15));
+    eight_is(fenced(14) + 208 + 8, 32 + 1);
+    eight_is(fenced(15) + 208 + 8, 32);
+    stop();
+
+    release_fenced(10);
+    grants(200, fenced(9) + 16, 200);
+    cache_is(11, fenced(8), 2);
+    bin_is(1, NONE, NONE);
+    stop();
+}
+
+static void exact_rest(void)
+{
+    group("a last remainder of exactly b+32 is binned");
+    start(8192);
+    grants(1192, 16, 1192);
+    grants(24, 1216, 24);
+    grants(1096, 1248, 1096);
+    grants(24, 2352, 24);
+    releases(16);
+    releases(1248);
+    grants(1112, 16, 1112); /* leaves a rest of 80 at 1120 */
+    grants(1000, 1248, 1000); /* leaves a rest of 96 at 2240 */
+    bin_is(5, 1120, 1120);
+    bin_is(1, 2240, 2240);
+    word_is("last remainder", 2, 2240);
+    grants(48, 1136, 72);
+    bin_is(6, 2240, 2240);
+    bin_is(5, NONE, NONE);
+    word_is("last remainder", 2, 2240);
+    grants(48, 2256, 56); /* now step 7 splits it, with a rest of 32 */
+    bin_is(1, 2304, 2304);
+    word_is("last remainder", 2, 2304);
+    stop();
+
+    start(8192);
+    grants(1192, 16, 1192);
+    grants(24, 1216, 24);
+    releases(16);
+    grants(1000, 16, 1000); /* leaves a rest of 192 at 1008 */
+    grants(136, 1024, 136); /* 192 is above 144+32 */
+    bin_is(1, 1152, 1152);
+    word_is("last remainder", 2, 1152);
+    eight_is(1200, 48);
+    stop();
+}
+
+/* Large chunks, each with a live one of 32 behind it, released in turn. */
+static void release_large(const uint32_t *size, unsigned count)
+{
+    uint32_t at[8], c = 0;
+
+    start(16384);
+    for (unsigned i = 0; i < count; i++) {
+        at[i] = c;
+        grants(size[i] - 8, c + 16, size[i] - 8);
+        grants(24, c + size[i] + 16, 24);
+        c += size[i] + 32;
+    }
+    for (unsigned i = 0; i < count; i++)
+        releases(at[i] + 16);
+    refuses(20000, 5);
+    bin_is(1, NONE, NONE);
+}
+
+static void second_of_equals(void)
+{
+    static const uint32_t equal[] = { 1504, 1504, 1504, 1504 };
+    static const uint32_t mixed[] = { 1488, 1520, 1488, 1472, 1504, 1488 };
+
+    group("equals: a newcomer goes second, the second is taken");
+    release_large(equal, 4); /* sorted 0, then 1, 2, 3 each put second */
+    bin_is(71, 0, 1536);
+    eight_is(0 + 16, 3 * 1536);
+    eight_is(3 * 1536 + 16, 2 * 1536);
+    eight_is(2 * 1536 + 16, 1536);
+    eight_is(1536 + 16, PLAIN_NONE64);
+    grants(1496, 3 * 1536 + 16, 1496);
+    grants(1496, 2 * 1536 + 16, 1496);
+    grants(1480, 1536 + 16, 1496); /* a rest of 16 stays */
+    grants(1496, 16, 1496);
+    bin_is(71, NONE, NONE);
+    stop();
+
+    release_large(mixed, 6);
+    uint32_t c0 = 0, c1 = 1520, c2 = 3072, c3 = 4592, c4 = 6096, c5 = 7632;
+    bin_is(71, c1, c3); /* 1520, 1504, 1488 (0, 5, 2), 1472 */
+    eight_is(c1 + 16, c4);
+    eight_is(c4 + 16, c0);
+    eight_is(c0 + 16, c5);
+    eight_is(c5 + 16, c2);
+    eight_is(c2 + 16, c3);
+    grants(1465, c5 + 16, 1480);
+    grants(1464, c3 + 16, 1464);
+    grants(1464, c2 + 16, 1480);
+    grants(1464, c0 + 16, 1480);
+    grants(1464, c4 + 16, 1464); /* 1504: the rest of 32 is cut off */
+    bin_is(1, c4 + 1472, c4 + 1472);
+    word_is("last remainder", 2, NONE);
+    stop();
+}
+
+static void unlink_order(void)
+{
+    group("join unlinks the chunk before, then the one after");
+    for (unsigned after_first = 0; after_first <= 1; after_first++) {
+        start(8192);
+        for (uint32_t i = 0; i < 3; i++)
+            grants(1112, 1120 * i + 16, 1112);
+        grants(24, 3376, 24);
+        releases(after_first ? 2240 + 16 : 16);
+        releases(after_first ? 16 : 2240 + 16);
+        releases(1120 + 16);
+        bin_is(1, 0, 0);
+        eight_is(8, 3360 + 1);
+        eight_is(16, PLAIN_NONE64);
+        eight_is(24, PLAIN_NONE64);
+        eight_is(1120 + 8, 1120); /* headers inside the whole stay */
+        eight_is(2240 + 8, 1120 + 1);
+        eight_is(2240 + 16, PLAIN_NONE64);
+        eight_is(2240 + 24, PLAIN_NONE64);
+        eight_is(3360, 3360);
+        eight_is(3360 + 8, 32);
+        stop();
+    }
+}
+
+/* A bin's end without neighbours may be unsorted's or its own bin's. */
+static void which_bin(void)
+{
+    group("a binned neighbour is found in unsorted or its own bin");
+    for (unsigned sorted = 0; sorted <= 1; sorted++) {
+        start(8192);
+        grants(1112, 16, 1112);
+        grants(1112, 1136, 1112);
+        grants(24, 2256, 24);
+        grants(1240, 2288, 1240);
+        grants(24, 3536, 24);
+        releases(16);
+        if (sorted)
+            refuses(20000, 5);
+        releases(2288);
+        bin_is(65, sorted ? 0 : NONE, sorted ? 0 : NONE);
+        releases(1136);
+        bin_is(65, NONE, NONE);
+        bin_is(1, 0, 2272);
+        eight_is(8, 2241);
+        stop();
+    }
+}
+
+static void refused_leaves_its_steps(void)
+{
+    group("a grant refused with 5 keeps its sorting and joining");
+    start(4096);
+    for (uint32_t i = 0; i < 10; i++)
+        grants(24, 32 * i + 16, 24);
+    grants(1112, 336, 1112); /* at 320, and a live one behind it */
+    grants(24, 1456, 24);
+    grants(24, 1488, 24); /* touches the top */
+    for (uint32_t i = 0; i < 7; i++)
+        releases(32 * i + 16);
+    releases(7 * 32 + 16); /* fast */
+    releases(9 * 32 + 16); /* fast */
+    releases(1488);        /* fast, before the top */
+    releases(336);         /* unsorted */
+    word_is("top", 1, 1504);
+    word_is("fast head", plain_fast_head(0), 1472);
+    struct lent before = lend(4096, 0);
+    copy_lent(&before, &l);
+    refuses(200000, 5);
+    for (unsigned k = 0; k < 10; k++)
+        word_is("fast head", plain_fast_head(k), NONE);
+    word_is("top", 1, 1472);
+    eight_is(1472 + 8, 4096 - 1472 + 1);
+    bin_is(1, NONE, NONE);
+    bin_is(2, 224, 224);
+    bin_is(66, 288, 288); /* 32 at 288 joined with 1,120 at 320 */
+    eight_is(288 + 8, 1152 + 1);
+    eight_is(320 + 8, 1120 + 1);
+    CHECK(memcmp(l.record + 8, before.record + 8, 4 * 129) == 0,
+          "last remainder or cache changed");
+    give_back(&before);
+    stop();
+}
+
+static void fast_moves_reversed(void)
+{
+    group("step 2 moves the fast list to the cache, reversed");
+    start(2048);
+    for (uint32_t i = 0; i < 12; i++)
+        grants(24, 32 * i + 16, 24);
+    for (uint32_t i = 0; i < 12; i++)
+        releases(32 * i + 16);
+    for (uint32_t i = 0; i < 7; i++)
+        grants(24, 32 * (6 - i) + 16, 24);
+    grants(24, 32 * 11 + 16, 24);
+    word_is("fast head", plain_fast_head(0), NONE);
+    cache_is(0, 32 * 7, 4);
+    eight_is(32 * 7 + 16, 32 * 8);
+    eight_is(32 * 8 + 16, 32 * 9);
+    eight_is(32 * 10 + 16, PLAIN_NONE64);
+    stop();
+}
+
+static void settle_clears_the_remainder(void)
+{
+    group("settle clears the last remainder; without blocks it opens anew");
+    start(8192);
+    grants(1192, 16, 1192);
+    grants(24, 1216, 24);
+    releases(16);
+    grants(200, 16, 200);
+    word_is("last remainder", 2, 208);
+    settles();
+    word_is("last remainder", 2, NONE);
+    bin_is(1, 208, 208);
+    grants(200, 224, 200); /* sorted first, then split by step 7 */
+    word_is("last remainder", 2, 416);
+    releases(16);
+    releases(224);
+    releases(1216);
+    settles();
+    struct lent fresh = lend(8192, 0);
+    lent_open(&fresh);
+    CHECK(same_record(&l, &fresh), "the record is not the newly opened one");
+    eight_is(8, 8193);
+    give_back(&fresh);
+    stop();
+}
+
+int main(void)
+{
+    request_sizes();
+    bin_numbers();
+    eight_released();
+    opens();
+    small_arenas();
+    largest_arena();
+    not_live();
+    split_with_one_cached();
+    eighth_granted();
+    exact_rest();
+    second_of_equals();
+    unlink_order();
+    which_bin();
+    refused_leaves_its_steps();
+    fast_moves_reversed();
+    settle_clears_the_remainder();
+    return finish();
+}

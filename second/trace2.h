@@ -1,0 +1,60 @@
+/*
+ * Which places of the steps were reached, for tests that must know it. Only
+ * a build with SECOND_TRACE counts; without it the marks vanish and the
+ * program is the one that is measured.
+ */
+#ifndef TRACE2_H
+#define TRACE2_H
+
+#include <stdint.h>
+
+#define SECOND_PLACES(PLACE)                                                  \
+    PLACE(STEP_1, "1 cache head")                                             \
+    PLACE(STEP_2, "2 fast head")                                              \
+    PLACE(STEP_2_MOVED, "2 fast chunk moved to the cache")                    \
+    PLACE(STEP_3, "3 last of its small bin")                                  \
+    PLACE(STEP_3_MOVED, "3 binned chunk moved to the cache")                  \
+    PLACE(STEP_4, "4 consolidates")                                           \
+    PLACE(STEP_5_SPLIT, "5 splits the last remainder")                        \
+    PLACE(STEP_5_SPLIT_CACHED, "5 splits it with a chunk just cached")        \
+    PLACE(STEP_5_EXACT_REST, "5 last remainder of exactly b+32 is binned")    \
+    PLACE(STEP_5_GRANTED, "5 grants an equal, its cache list full")           \
+    PLACE(STEP_5_CACHED, "5 grants a chunk just cached")                      \
+    PLACE(STEP_5_EQUAL_LARGE, "5 grants an equal too large for the cache")    \
+    PLACE(STEP_5_SMALL, "5 puts a chunk in a small bin")                      \
+    PLACE(STEP_5_LARGE, "5 puts a chunk in a large bin")                      \
+    PLACE(STEP_5_SECOND, "5 puts a chunk second among its equals")            \
+    PLACE(STEP_6, "6 smallest that fits in its own bin")                      \
+    PLACE(STEP_6_SECOND, "6 second of equals")                                \
+    PLACE(STEP_7, "7 last of a bin above")                                    \
+    PLACE(STEP_8_WHOLE, "8 rest under 32 stays")                              \
+    PLACE(STEP_8_SPLIT, "8 splits")                                           \
+    PLACE(STEP_9, "9 cuts the top")                                           \
+    PLACE(STEP_9_AGAIN, "9 consolidates and goes to 5")                       \
+    PLACE(STEP_9_REFUSED, "9 refuses")                                        \
+    PLACE(JOIN_BEFORE, "join with the chunk before")                          \
+    PLACE(JOIN_AFTER, "join with the chunk after")                            \
+    PLACE(JOIN_BOTH, "join with both")                                        \
+    PLACE(JOIN_TOP, "join with the top")
+
+#define SECOND_PLACE_NAME(place, text) place,
+enum second_place { SECOND_PLACES(SECOND_PLACE_NAME) SECOND_PLACE_COUNT };
+#undef SECOND_PLACE_NAME
+
+struct second_trace {
+    uint64_t reached[SECOND_PLACE_COUNT];
+    uint32_t released; /* what the joining of the last release yielded, or 0 */
+};
+
+/* Exists in a build with SECOND_TRACE only. */
+extern struct second_trace second_trace;
+
+#ifdef SECOND_TRACE
+#define REACHED(place) (second_trace.reached[place]++)
+#define RELEASED(size) (second_trace.released = (size))
+#else
+#define REACHED(place) ((void)0)
+#define RELEASED(size) ((void)(size))
+#endif
+
+#endif
