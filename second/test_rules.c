@@ -94,6 +94,8 @@ static void request_sizes(void)
         start(4096);
         grants(figure[i][0], 16, size - 8);
         word_is("top", 1, size);
+        eight_is(size, 0xa5a5a5a5a5a5a5a5u); /* the top's cut notes no end */
+        eight_is(size + 8, 4096 - size + 1);
         grants(0, size + 16, 24);
         releases(16);
         if (size <= 1040) {

@@ -4,8 +4,8 @@ ghost use mathlib.Core.Path.{_≡_};
 ghost use Prim.Native.Nat.{_≤_};
 ghost use Rattle.sizes.specs.Sizes.{largeBin, binOf};
 
-// The first line that applies.
-fn large_bin(s: u64) -> u64
+// The bin of a size of 1,024 or more: the first line that applies.
+pub fn large_bin(s: u64) -> u64
     ensures { λ r. ⌜ r ≡ largeBin s ⌝ }
 {
     if s / 64 <= 48 {

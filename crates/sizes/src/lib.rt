@@ -6,6 +6,7 @@ mod layout; // layout.rt: which word of the record is what
 mod limits; // limits.rt: document 01's limits
 
 pub use bins::bin_of;
+pub use bins::large_bin;
 pub use layout::CACHE_COUNTS;
 pub use layout::CACHE_HEADS;
 pub use layout::FAST_HEADS;

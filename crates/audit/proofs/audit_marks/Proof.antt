@@ -1,0 +1,109 @@
+-- `audit_marks` meets its contract: each way out is a lemma of Whole. Assumes nothing.
+use mathlib.Core.Path.{_≡_, sym, _∙_}
+use Prim.Native.Nat.{_*_}
+use native.Mathlib.Omega.{arith}
+use lib.ListN.{length, getD}
+use borrow.Author.Tests.{not-true, not-false}
+use borrow.Author.Needs.{needs}
+use Rattle.le.specs.Arena.{arenaWords}
+use Rattle.audit.specs.Tests.{is-sound}
+use Rattle.audit.specs.TileTurn.{arena-length}
+use Rattle.audit.specs.Whole.{audit-record, audit-tile, audit-list, flagging, audit-flag, bytes-kept}
+use Rattle.audit.proofs.audit_marks.Statement.{statement}
+use Rattle.audit.proofs.audit_marks.Tie as tie
+
+shared-slice-read-if1 : tie.Need-shared-slice-read-if1
+shared-slice-read-if1 c = search needs
+
+cast-if1 : tie.Need-cast-if1
+cast-if1 c = omega (arith, c .shared-slice-known3 .given 0)
+
+returns : tie.Need-returns
+returns c =
+    let s = c .before .before .before .before .before in
+    let len = arena-length (s .args .a .now) (s .pre .0 .arena) in
+    audit-record (arenaWords (s .args .a .now)) (s .args .r .now) _ (λ e. c .if1 .taken (e ∙ len))
+
+shared-slice-read-top : tie.Need-shared-slice-read-top
+shared-slice-read-top c = search needs
+
+tile-fault-requires : tie.Need-tile-fault-requires
+tile-fault-requires c κs = search needs
+
+is-sound-requires : tie.Need-is-sound-requires
+is-sound-requires c κs = search needs
+
+same-length : tie.Need-same-length
+same-length c = search needs
+
+returns-2 : tie.Need-returns-2
+returns-2 c =
+    let s = c .before .before .before .before .before .before .before .before .before .before .before .before in
+    let w = arenaWords (s .args .a .now) in
+    let e : getD (s .args .r .now) 0 0 ≡ 8 * length w = omega (arith, c .before .before .before .before .before .before .before .if1 .left, arena-length (s .args .a .now) (s .pre .0 .arena)) in
+    audit-tile w (s .args .r .now) _ _ _ e (c .before .before .before .before .tile-fault .ensures) (sym (c .before .is-sound .ensures) ∙ not-true _ (c .if2 .taken))
+
+list-fault-requires : tie.Need-list-fault-requires
+list-fault-requires c κs =
+    let s = c .before .before .before .before .before .before .before .before .before .before .before .before .before in
+    let t = c .before .before .before .before .before .tile-fault in
+    let ts = is-sound (t .result) (sym (c .before .before .is-sound .ensures) ∙ not-false _ (c .before .if2 .left)) in
+    (bytes-kept (s .args .a .now) (s .args .m .now) _ (t .kept .1 .1 .0) (s .pre .0), s .pre .1, t .ensures .marks ts)
+
+is-sound-requires-2 : tie.Need-is-sound-requires-2
+is-sound-requires-2 c κs = search needs
+
+same-length-2 : tie.Need-same-length-2
+same-length-2 c = search needs
+
+returns-3 : tie.Need-returns-3
+returns-3 c =
+    let s = c .before .before .before .before .before .before .before .before .before .before .before .before .before .before .before .before .before .before in
+    let w = arenaWords (s .args .a .now) in
+    let e : getD (s .args .r .now) 0 0 ≡ 8 * length w = omega (arith, c .before .before .before .before .before .before .before .before .before .before .before .before .before .if1 .left, arena-length (s .args .a .now) (s .pre .0 .arena)) in
+    let t = c .before .before .before .before .before .before .before .before .before .before .tile-fault in
+    let ts = is-sound (t .result) (sym (c .before .before .before .before .before .before .before .is-sound .ensures) ∙ not-false _ (c .before .before .before .before .before .before .if2 .left)) in
+    audit-list w (s .args .r .now) _ _ _ _ _ e (t .ensures) ts (c .before .before .before .before .list-fault .ensures) (sym (c .before .is-sound2 .ensures) ∙ not-true _ (c .if3 .taken))
+
+flag-fault-requires : tie.Need-flag-fault-requires
+flag-fault-requires c κs =
+    let s = c .before .before .before .before .before .before .before .before .before .before .before .before .before .before .before .before .before .before .before in
+    let w = arenaWords (s .args .a .now) in
+    let t = c .before .before .before .before .before .before .before .before .before .before .before .tile-fault in
+    let ts = is-sound (t .result) (sym (c .before .before .before .before .before .before .before .before .is-sound .ensures) ∙ not-false _ (c .before .before .before .before .before .before .before .if2 .left)) in
+    let l = c .before .before .before .before .before .list-fault in
+    (bytes-kept (s .args .a .now) (s .args .m .now) _ (l .kept .1 .1 .0 ∙ t .kept .1 .1 .0) (s .pre .0), flagging w (s .args .r .now) _ _ (t .ensures) ts)
+
+same-length-3 : tie.Need-same-length-3
+same-length-3 c = search needs
+
+returns-4 : tie.Need-returns-4
+returns-4 c =
+    let s = c .before .before .before .before .before .before .before .before .before .before .before .before .before .before .before .before .before .before .before .before in
+    let w = arenaWords (s .args .a .now) in
+    let e : getD (s .args .r .now) 0 0 ≡ 8 * length w = omega (arith, c .before .before .before .before .before .before .before .before .before .before .before .before .before .before .before .if1 .left, arena-length (s .args .a .now) (s .pre .0 .arena)) in
+    let t = c .before .before .before .before .before .before .before .before .before .before .before .before .tile-fault in
+    let ts = is-sound (t .result) (sym (c .before .before .before .before .before .before .before .before .before .is-sound .ensures) ∙ not-false _ (c .before .before .before .before .before .before .before .before .if2 .left)) in
+    let l = c .before .before .before .before .before .before .list-fault in
+    let ls = is-sound (l .result) (sym (c .before .before .before .is-sound2 .ensures) ∙ not-false _ (c .before .before .if3 .left)) in
+    audit-flag w (s .args .r .now) _ _ _ _ _ e (t .ensures) ts (l .ensures) ls (c .flag-fault .ensures)
+
+pub audit-marks-spec : {M : Type 1} → statement M
+audit-marks-spec =
+    tie.close
+    (tie.spec
+    shared-slice-read-if1
+    cast-if1
+    returns
+    shared-slice-read-top
+    tile-fault-requires
+    is-sound-requires
+    same-length
+    returns-2
+    list-fault-requires
+    is-sound-requires-2
+    same-length-2
+    returns-3
+    flag-fault-requires
+    same-length-3
+    returns-4)

@@ -1,0 +1,268 @@
+-- The turns of the nested loop over lists and chunks, and its ways out: the answer from the chunk at hand on is the whole's, and so is what is left of the
+-- chunks. Neither loop's invariant speaks of the other. Assumes nothing.
+use mathlib.Core.Path.{_≡_, refl, sym, ap, _∙_, subst}
+use mathlib.Core.List.{List, [], _∷_}
+use mathlib.Core.Bool.{Bool, true, false}
+use Prim.Native.Nat.{ℕ, zero, suc, _+_, _-_, _/_, _≤_, _<_}
+use native.Mathlib.Nat.{le-of-suc-le-suc, not-suc-le-zero}
+use native.Mathlib.Omega.{arith}
+use lib.Dec.{ltb}
+use lib.ListN.{length, getD, set, drop}
+use borrow.Author.Tests.{eq-eqb, ne-eqb, ltb-true, ltb-false}
+use Rattle.sizes.specs.Limits.{none64}
+use Rattle.sizes.specs.Layout.{fwdWord}
+use Rattle.machine.specs.Lists.{both, cnt, cntAll, has?, without, minus, tabulate}
+use Rattle.machine.specs.Count.{without-length}
+use Rattle.machine.specs.View.{sizeAt, up, kindAt, headWord, chunksFrom, listAt}
+use Rattle.machine.specs.Audit.{fits, mayEnd, goodFrom, listFault}
+use Rattle.machine.specs.declared.ListKind.{ListKind}
+use Rattle.machine.specs.declared.ListKind.the-variants.{Cache, Fast, Bin}
+use Rattle.machine.specs.declared.Audited.{Audited}
+use Rattle.machine.specs.declared.Audited.the-variants as A
+use Rattle.audit_leaves.specs.Leaves.{unmet, markOf, tailWord}
+use Rattle.audit.specs.Tests.{not-sound}
+use Rattle.audit.specs.Lists.{minusAll}
+use Rattle.audit.specs.Spelled.{listsOf, listsOf-length}
+use Rattle.audit.specs.Marks.{Marks, Started, ListsDone, startsOf, binnedOf}
+use Rattle.audit.specs.MarkLaws.{binCnt, unmet-has, unmet-inside, mark-step, marks-same}
+
+-- ---- the i-th list
+drop-tabulate : (n i j : ℕ) (f : ℕ → List ℕ) → i < n → drop i (tabulate n f j) ≡ f (i + j) ∷ drop (suc i) (tabulate n f j)
+drop-tabulate zero i j f h = absurd (not-suc-le-zero h)
+drop-tabulate (suc n) zero j f h = let e : 0 + j ≡ j = omega arith in rw e
+drop-tabulate (suc n) (suc i) j f h =
+    let e : i + suc j ≡ suc i + j = omega arith in
+    drop-tabulate n i (suc j) f (le-of-suc-le-suc h) ∙ ap (λ (x : ℕ). f x ∷ drop (suc i) (tabulate n f (suc j))) e
+
+list-next : (w r : List ℕ) (i : ℕ) → i < 200 → drop i (listsOf w r) ≡ listAt w r i ∷ drop (suc i) (listsOf w r)
+unfolding listsOf
+list-next w r i h =
+    let e : i + 0 ≡ i = omega arith in
+    drop-tabulate 200 i 0 (listAt w r) h ∙ ap (λ (x : ℕ). listAt w r x ∷ drop (suc i) (tabulate 200 (listAt w r) 0)) e
+
+-- ---- the chunks that go to bins
+bin-more : (k : ListKind) (x c : ℕ) (l : List ℕ) → binCnt k x (c ∷ l) ≡ binCnt k x (c ∷ []) + binCnt k x l
+bin-more (Cache k) x c l = refl
+bin-more (Fast k) x c l = refl
+bin-more (Bin j) x c l = omega arith
+
+bin-none : (k : ListKind) (x : ℕ) → binCnt k x [] ≡ 0
+bin-none (Cache k) x = refl
+bin-none (Fast k) x = refl
+bin-none (Bin j) x = refl
+
+bin-later : (x i : ℕ) (l : List ℕ) (ls : List (List ℕ)) → cntAll x (drop (74 - i) (l ∷ ls)) ≡ binCnt (kindAt i) x l + cntAll x (drop (74 - suc i) ls)
+bin-later x i l ls = go (ltb i 64) (ltb i 74) refl refl
+  where
+    early : i < 74 → cntAll x (drop (74 - i) (l ∷ ls)) ≡ 0 + cntAll x (drop (74 - suc i) ls)
+    early h =
+        let e : 74 - i ≡ suc (74 - suc i) = omega arith in
+        ap (λ (n : ℕ). cntAll x (drop n (l ∷ ls))) e ∙ sym (omega arith)
+
+    go : (a b : Bool) → ltb i 64 ≡ a → ltb i 74 ≡ b
+        → cntAll x (drop (74 - i) (l ∷ ls)) ≡ binCnt (elim a [ true ↦ Cache i | false ↦ elim b [ true ↦ Fast (i - 64) | false ↦ Bin (i - 73) ] ]) x l + cntAll x (drop (74 - suc i) ls)
+    go true b p q = early (omega (arith, ltb-true i 64 p))
+    go false true p q = early (ltb-true i 74 q)
+    go false false p q =
+        let h : 74 ≤ i = ltb-false i 74 q in
+        let e : 74 - i ≡ 0 = omega arith in
+        let g : 74 - suc i ≡ 0 = omega arith in
+        ap (λ (n : ℕ). cntAll x (drop n (l ∷ ls))) e ∙ ap (λ (n : ℕ). cnt x l + cntAll x (drop n ls)) (sym g)
+
+-- ---- the loops. resume: the body of listFault's clause at a later chunk, after p and n chunks, with the chunks l to come
+abbrev resume : List ℕ → List ℕ → ListKind → ℕ → List ℕ → ℕ → ℕ → List ℕ → List (List ℕ) → Audited
+resume w r k i left p n l ls = elim (goodFrom k w r left p n l) [ true ↦ listFault w r (suc i) (minus left l) ls | false ↦ A.List k ]
+
+abbrev whole : List ℕ → List ℕ → Audited
+whole w r = listFault w r 0 (startsOf w) (listsOf w r)
+
+-- before list i
+pub record Out (w r m : List ℕ) (i : ℕ) : Type 0 where
+  pub left : List ℕ
+  pub b : ℕ → ℕ
+  pub marks : Marks w m left b
+  pub few : length left < length w
+  pub same : listFault w r i left (drop i (listsOf w r)) ≡ whole w r
+  pub rest : minusAll left (drop i (listsOf w r)) ≡ minusAll (startsOf w) (listsOf w r)
+  pub bins : (x : ℕ) → b x + cntAll x (drop (74 - i) (drop i (listsOf w r))) ≡ binnedOf w r x
+
+-- in list i, of the kind k, before the chunk c, after n chunks, of which p, of size q, is the last
+pub record In (w r m : List ℕ) (k : ListKind) (i p q n c : ℕ) : Type 0 where
+  pub left : List ℕ
+  pub b : ℕ → ℕ
+  pub f : ℕ
+  pub marks : Marks w m left b
+  pub fuel : length left < f
+  pub few : n + length left < length w
+  pub same : resume w r k i left p n (chunksFrom f w c) (drop (suc i) (listsOf w r)) ≡ whole w r
+  pub rest : minusAll (minus left (chunksFrom f w c)) (drop (suc i) (listsOf w r)) ≡ minusAll (startsOf w) (listsOf w r)
+  pub bins : (x : ℕ) → b x + binCnt k x (chunksFrom f w c) + cntAll x (drop (74 - suc i) (drop (suc i) (listsOf w r))) ≡ binnedOf w r x
+  pub sized : (p ≡ none64 → ⊥) → q ≡ sizeAt w p
+
+pub lists-enter : (w r m : List ℕ) → Started w m → Out w r m 0
+lists-enter w r m s = record
+    { left = startsOf w; b = λ x. 0; marks = s .marks; few = s .few; same = refl; rest = refl; bins = λ x. omega arith }
+
+list-enter : (w r m : List ℕ) (i q : ℕ) → i < 200 → Out w r m i → In w r m (kindAt i) i none64 q 0 (up (getD r (headWord (kindAt i)) 0))
+unfolding listFault listAt
+list-enter w r m i q h o =
+    let e : drop i (listsOf w r) ≡ listAt w r i ∷ drop (suc i) (listsOf w r) = list-next w r i h in
+    record {
+      left = o .left;
+      b = o .b;
+      f = length w;
+      marks = o .marks;
+      fuel = o .few;
+      few = omega (arith, o .few);
+      same = sym (ap (listFault w r i (o .left)) e) ∙ o .same;
+      rest = sym (ap (minusAll (o .left)) e) ∙ o .rest;
+      bins = λ x. omega (arith, o .bins x, ap (λ (ls : List (List ℕ)). cntAll x (drop (74 - i) ls)) e, bin-later x i (listAt w r i) (drop (suc i) (listsOf w r)));
+      sized = λ n. absurd (n refl);
+    }
+
+pub list-begin : (w r m : List ℕ) (i q : ℕ) (k : ListKind) (c : ℕ) → k ≡ kindAt i → c ≡ up (getD r (headWord k) 0) → i < 200 → Out w r m i → In w r m k i none64 q 0 c
+list-begin w r m i q k c e g h o = rw (g, e) (list-enter w r m i q h o)
+
+-- ---- one turn
+chunks-more : (f : ℕ) (w : List ℕ) (c : ℕ) → (c ≡ none64 → ⊥) → chunksFrom (suc f) w c ≡ c ∷ chunksFrom f w (getD w (fwdWord c) 0)
+chunks-more f w c n = rw (ne-eqb c none64 n, chunksFrom)
+
+chunks-end : (f : ℕ) (w : List ℕ) (c : ℕ) → c ≡ none64 → chunksFrom f w c ≡ []
+chunks-end zero w c e = refl
+chunks-end (suc f) w c e = rw (eq-eqb c none64 e, chunksFrom)
+
+resume-bad : (w r : List ℕ) (k : ListKind) (i : ℕ) (left : List ℕ) (p n c : ℕ) (l : List ℕ) (ls : List (List ℕ)) → both (has? c left) (fits k w p n c) ≡ false
+    → resume w r k i left p n (c ∷ l) ls ≡ A.List k
+unfolding goodFrom
+resume-bad w r k i left p n c l ls e =
+    let g : goodFrom k w r left p n (c ∷ l) ≡ false = ap (λ (z : Bool). both z (goodFrom k w r (without c left) c (suc n) l)) e in
+    rw (g, resume)
+
+resume-more : (w r : List ℕ) (k : ListKind) (i : ℕ) (left : List ℕ) (p n c : ℕ) (l : List ℕ) (ls : List (List ℕ)) → both (has? c left) (fits k w p n c) ≡ true
+    → resume w r k i left p n (c ∷ l) ls ≡ resume w r k i (without c left) c (suc n) l ls
+unfolding goodFrom
+resume-more w r k i left p n c l ls e =
+    let g : goodFrom k w r left p n (c ∷ l) ≡ goodFrom k w r (without c left) c (suc n) l = ap (λ (z : Bool). both z (goodFrom k w r (without c left) c (suc n) l)) e in
+    ap (λ (z : Bool). elim z [ true ↦ listFault w r (suc i) (minus left (c ∷ l)) ls | false ↦ A.List k ]) g
+
+end-false : (w r : List ℕ) (k : ListKind) (i : ℕ) (left : List ℕ) (p n : ℕ) (ls : List (List ℕ)) → mayEnd k r p n ≡ false → resume w r k i left p n [] ls ≡ A.List k
+unfolding goodFrom
+end-false w r k i left p n ls h = let g : goodFrom k w r left p n [] ≡ false = h in rw (g, resume)
+
+end-true : (w r : List ℕ) (k : ListKind) (i : ℕ) (left : List ℕ) (p n : ℕ) (ls : List (List ℕ)) → mayEnd k r p n ≡ true → resume w r k i left p n [] ls ≡ listFault w r (suc i) left ls
+unfolding goodFrom
+end-true w r k i left p n ls h = let g : goodFrom k w r left p n [] ≡ true = h in rw (g, resume)
+
+module _ (w r m : List ℕ) (k : ListKind) (i p q n c : ℕ) (o : In w r m k i p q n c) where
+  list-bad : (m′ : List ℕ) → (c ≡ none64 → ⊥) → both (has? c (o .left)) (fits k w p n c) ≡ false → ListsDone w r (A.List k) m′
+  list-bad m′ ne e = go (o .f) (o .fuel) (o .same)
+    where
+      go : (f : ℕ) → length (o .left) < f → resume w r k i (o .left) p n (chunksFrom f w c) (drop (suc i) (listsOf w r)) ≡ whole w r → ListsDone w r (A.List k) m′
+      go zero b s = absurd (not-suc-le-zero b)
+      go (suc f) b s = record {
+        is = sym (ap (λ (l : List ℕ). resume w r k i (o .left) p n l (drop (suc i) (listsOf w r))) (chunks-more f w c ne)
+            ∙ resume-bad w r k i (o .left) p n c _ _ e) ∙ s;
+        marks = λ y. not-sound (A.List k) refl y;
+      }
+
+  -- c is no chunk, or was met; c does not fit
+  pub list-met : (v : Bool) (m′ : List ℕ) → (c ≡ none64 → ⊥) → v ≡ unmet m c → v ≡ false → ListsDone w r (A.List k) m′
+  list-met v m′ ne e z =
+      let h : has? c (o .left) ≡ false = sym (unmet-has w m (o .left) (o .b) (o .marks) c) ∙ sym e ∙ z in
+      list-bad m′ ne (ap (λ (y : Bool). both y (fits k w p n c)) h)
+
+  has-true : (v : Bool) → v ≡ unmet m c → v ≡ true → has? c (o .left) ≡ true
+  has-true v e z = sym (unmet-has w m (o .left) (o .b) (o .marks) c) ∙ sym e ∙ z
+
+  pub list-unfit : (v u : Bool) (m′ : List ℕ) → (c ≡ none64 → ⊥) → v ≡ unmet m c → v ≡ true → u ≡ fits k w p n c → u ≡ false → ListsDone w r (A.List k) m′
+  list-unfit v u m′ ne e z g y = list-bad m′ ne (ap (λ (x : Bool). both x (fits k w p n c)) (has-true v e z) ∙ sym g ∙ y)
+
+  pub list-turn : (v u : Bool) (s : ℕ) → (c ≡ none64 → ⊥) → v ≡ unmet m c → v ≡ true → u ≡ fits k w p n c → u ≡ true → s ≡ sizeAt w c
+      → In w r (set m (c / 16) (markOf k)) k i c s (n + 1) (getD w (fwdWord c) 0)
+  list-turn v u s ne e z d y sz = go (o .f) (o .fuel) (o .same) (o .rest) (o .bins)
+    where
+      tested : both (has? c (o .left)) (fits k w p n c) ≡ true
+      tested = ap (λ (x : Bool). both x (fits k w p n c)) (has-true v e z) ∙ sym d ∙ y
+
+      g : length (o .left) ≡ suc (length (without c (o .left)))
+      g = without-length c (o .left) (unmet-inside w m (o .left) (o .b) (o .marks) c (sym e ∙ z) .2)
+
+      go : (f : ℕ) → length (o .left) < f
+          → resume w r k i (o .left) p n (chunksFrom f w c) (drop (suc i) (listsOf w r)) ≡ whole w r
+          → minusAll (minus (o .left) (chunksFrom f w c)) (drop (suc i) (listsOf w r)) ≡ minusAll (startsOf w) (listsOf w r)
+          → ((x : ℕ) → o .b x + binCnt k x (chunksFrom f w c) + cntAll x (drop (74 - suc i) (drop (suc i) (listsOf w r))) ≡ binnedOf w r x)
+          → In w r (set m (c / 16) (markOf k)) k i c s (n + 1) (getD w (fwdWord c) 0)
+      go zero b a t u = absurd (not-suc-le-zero b)
+      go (suc f) b a t u =
+          let h : chunksFrom (suc f) w c ≡ c ∷ chunksFrom f w (getD w (fwdWord c) 0) = chunks-more f w c ne in
+          let n1 : suc n ≡ n + 1 = omega arith in
+          record {
+            left = without c (o .left);
+            b = λ x. o .b x + binCnt k x (c ∷ []);
+            f = f;
+            marks = mark-step w m (o .left) (o .b) c k (o .marks) (sym e ∙ z);
+            fuel = omega (arith, g);
+            few = omega (arith, g, o .few);
+            same = subst (λ (y : ℕ). resume w r k i (without c (o .left)) c y (chunksFrom f w (getD w (fwdWord c) 0)) (drop (suc i) (listsOf w r)) ≡ whole w r) n1
+                (sym (ap (λ (l : List ℕ). resume w r k i (o .left) p n l (drop (suc i) (listsOf w r))) h
+                ∙ resume-more w r k i (o .left) p n c _ _ tested) ∙ a);
+            rest = sym (ap (λ (l : List ℕ). minusAll (minus (o .left) l) (drop (suc i) (listsOf w r))) h) ∙ t;
+            bins = λ x. omega (arith, u x, ap (λ (l : List ℕ). binCnt k x l) h, bin-more k x c (chunksFrom f w (getD w (fwdWord c) 0)));
+            sized = λ _. sz;
+          }
+
+  -- where the list ends
+  pub list-end-bad : (v : Bool) (m′ : List ℕ) → c ≡ none64 → v ≡ mayEnd k r p n → v ≡ false → ListsDone w r (A.List k) m′
+  list-end-bad v m′ e g z = record {
+    is = sym (ap (λ (y : List ℕ). resume w r k i (o .left) p n y (drop (suc i) (listsOf w r))) (chunks-end (o .f) w c e)
+        ∙ end-false w r k i (o .left) p n (drop (suc i) (listsOf w r)) (sym g ∙ z)) ∙ o .same;
+    marks = λ y. not-sound (A.List k) refl y;
+  }
+
+  pub list-leave : (v : Bool) → c ≡ none64 → v ≡ mayEnd k r p n → v ≡ true → Out w r m (i + 1)
+  list-leave v e g z =
+      let i1 : suc i ≡ i + 1 = omega arith in
+      let d : chunksFrom (o .f) w c ≡ [] = chunks-end (o .f) w c e in
+      subst (λ (y : ℕ). Out w r m y) i1 (record {
+        left = o .left;
+        b = o .b;
+        marks = o .marks;
+        few = omega (arith, o .few);
+        same = sym (ap (λ (y : List ℕ). resume w r k i (o .left) p n y (drop (suc i) (listsOf w r))) d
+            ∙ end-true w r k i (o .left) p n (drop (suc i) (listsOf w r)) (sym g ∙ z)) ∙ o .same;
+        rest = sym (ap (λ (y : List ℕ). minusAll (minus (o .left) y) (drop (suc i) (listsOf w r))) d) ∙ o .rest;
+        bins = λ x. omega (arith, o .bins x, ap (λ (y : List ℕ). binCnt k x y) d, bin-none k x);
+      })
+
+-- ---- all lists are good
+drop-all : (n : ℕ) (ls : List (List ℕ)) → length ls ≡ n → drop n ls ≡ []
+drop-all zero [] e = refl
+drop-all zero (l ∷ ls) e = absurd (omega (arith, e))
+drop-all (suc n) [] e = refl
+drop-all (suc n) (l ∷ ls) e = drop-all n ls (omega (arith, e))
+
+drop-none : (x n : ℕ) → cntAll x (drop n []) ≡ 0
+drop-none x zero = refl
+drop-none x (suc n) = refl
+
+pub lists-done : (w r m : List ℕ) (i : ℕ) → 200 ≤ i → i ≤ 200 → Out w r m i → ListsDone w r A.Sound m
+unfolding listFault
+lists-done w r m i h l o =
+    let d : drop i (listsOf w r) ≡ [] = drop-all i (listsOf w r) (omega (arith, listsOf-length w r)) in
+    record {
+      is = sym (ap (listFault w r i (o .left)) d) ∙ o .same;
+      marks = λ _. marks-same w m _ _ _ _
+          (λ x. ap (λ (y : List ℕ). cnt x y) (sym (ap (minusAll (o .left)) d) ∙ o .rest))
+          (λ x. omega (arith, o .bins x, ap (λ (y : List (List ℕ)). cntAll x (drop (74 - i) y)) d, drop-none x (74 - i))) (o .marks);
+    }
+
+-- the record has the words of list i
+pub kind-words : (k : ListKind) (i : ℕ) → k ≡ kindAt i → i < 200 → (headWord k < 393) × (tailWord k < 393)
+kind-words k i e h = subst (λ (z : ListKind). (headWord z < 393) × (tailWord z < 393)) (sym e) (go (ltb i 64) (ltb i 74) refl refl)
+  where
+    go : (a b : Bool) → ltb i 64 ≡ a → ltb i 74 ≡ b
+        → (headWord (elim a [ true ↦ Cache i | false ↦ elim b [ true ↦ Fast (i - 64) | false ↦ Bin (i - 73) ] ]) < 393)
+        × (tailWord (elim a [ true ↦ Cache i | false ↦ elim b [ true ↦ Fast (i - 64) | false ↦ Bin (i - 73) ] ]) < 393)
+    go true b p q = let l = ltb-true i 64 p in (omega arith, omega arith)
+    go false true p q = let l = ltb-true i 74 q in (omega arith, omega arith)
+    go false false p q = (omega arith, omega arith)

@@ -1,0 +1,49 @@
+// The audit: sound, or the first fault of arena and record, in the order record, tiles, lists, flags. Linear in the arena: each tile is read twice, each
+// chunk of a list once. Assumes nothing.
+mod tiles; // tiles.rt: the tile loop
+mod lists; // lists.rt: the nested loop over lists and chunks
+mod flags; // flags.rt: the flag loop
+
+ghost use mathlib.Core.Path.{_≡_};
+ghost use lib.ListN.{length};
+ghost use Rattle.le.specs.Arena.{arenaWords};
+ghost use Rattle.machine.specs.Audit.{auditOf};
+ghost use Rattle.audit.specs.Marks.{ArenaBytes, Bytes, Clear, AuditDone};
+use machine::Audited;
+
+// The marks m, all 0 and one for each 16 bytes of arena, are lent: in a sound heap they are then 1 exactly at the live blocks.
+pub fn audit_marks(a: &[u8], r: &[u32], m: &mut [u8]) -> Audited
+    requires { ⌜ Bytes (now a) (now m) × (length (now r) ≡ 393) × Clear (now m) ⌝ }
+    ensures { λ f. ⌜ AuditDone (arenaWords (now (a .entry))) (now (r .entry)) f (now (m .exit)) ⌝ }
+{
+    if r[sizes::LENGTH_WORD] as usize != a.len() {
+        return Audited::Record;
+    }
+    let top = r[sizes::TOP_WORD];
+    let t = tiles::tile_fault(a, top, m);
+    if !machine::is_sound(t) {
+        return t;
+    }
+    let l = lists::list_fault(a, r, m);
+    if !machine::is_sound(l) {
+        return l;
+    }
+    flags::flag_fault(a, top, m)
+}
+
+// The marks are cleared no further than eight times what the arena needs.
+pub fn audit_words(a: &[u8], r: &[u32]) -> Audited
+    requires { ⌜ ArenaBytes (now a) × (length (now r) ≡ 393) ⌝ }
+    ensures { λ f. ⌜ f ≡ auditOf (arenaWords (now (a .entry))) (now (r .entry)) ⌝ }
+{
+    if a.len() <= 4096 {
+        let mut m = [0u8; 256];
+        return audit_marks(a, r, &mut m);
+    }
+    if a.len() <= 32768 {
+        let mut m = [0u8; 2048];
+        return audit_marks(a, r, &mut m);
+    }
+    let mut m = [0u8; 16384];
+    audit_marks(a, r, &mut m)
+}

@@ -1,0 +1,49 @@
+// Lists, in the order cache, fast, bins. A list is bad if it names an offset that is no chunk or is the top, a chunk met before, one of a size not its own,
+// a wrong back link or last, a wrong order, a count that is not its length, or more than 7. Assumes nothing.
+ghost use mathlib.Core.Path.{_≡_};
+ghost use lib.ListN.{length};
+ghost use Rattle.le.specs.Arena.{arenaWords};
+ghost use Rattle.audit.specs.Marks.{Bytes, Started, ListsDone};
+use machine::Audited;
+use sizes::NONE64;
+
+// The first bad list, or sound; marks each chunk of a list with the list's mark. c: the chunk at hand; p, q: the one before it and its size; n: how many
+// came before.
+pub fn list_fault(a: &[u8], r: &[u32], m: &mut [u8]) -> Audited
+    requires { ⌜ Bytes (now a) (now m) × (length (now r) ≡ 393) × Started (arenaWords (now a)) (now m) ⌝ }
+    ensures { λ f. ⌜ ListsDone (arenaWords (now (a .entry))) (now (r .entry)) f (now (m .exit)) ⌝ }
+{
+    let mut fault = Audited::Sound;
+    let mut i: u32 = 0;
+    'lists: while i < 200 {
+        let k = audit_leaves::kind_at(i);
+        let v = audit_leaves::mark(k);
+        let mut c = audit_leaves::head(r, k);
+        let mut p = NONE64;
+        let mut q: u64 = 0;
+        let mut n: u32 = 0;
+        while c != NONE64 {
+            if !audit_leaves::unmet(m, c) {
+                fault = Audited::List(k);
+                break 'lists;
+            }
+            let at = c as usize;
+            let s = audit_leaves::size_word(a, at).size();
+            if !audit_leaves::fits(a, k, at, s, p, q, n) {
+                fault = Audited::List(k);
+                break 'lists;
+            }
+            m[at / 16] = v;
+            p = c;
+            q = s;
+            n += 1;
+            c = audit_leaves::forward(a, at);
+        }
+        if !audit_leaves::may_end(r, k, p, n) {
+            fault = Audited::List(k);
+            break 'lists;
+        }
+        i += 1;
+    }
+    fault
+}

@@ -1,0 +1,19 @@
+-- `prims::set_p` meets its contract: the size word is written with the size that was read. Assumes nothing.
+use borrow.Author.Needs.{needs}
+use Rattle.prims.proofs.set_p.Statement.{statement}
+use Rattle.prims.proofs.set_p.Tie as tie
+
+size-at-requires : tie.Need-size-at-requires
+size-at-requires c κs = search needs
+
+set-size-requires : tie.Need-set-size-requires
+set-size-requires c κs = search needs
+
+same-length : tie.Need-same-length
+same-length c = search needs
+
+returns : tie.Need-returns
+returns c = cc
+
+pub set-p-spec : {M : Type 1} → statement M
+set-p-spec = tie.close (tie.spec size-at-requires set-size-requires same-length returns)

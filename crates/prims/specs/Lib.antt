@@ -1,0 +1,6 @@
+pub mod Places
+pub mod Chunks
+pub mod Ends
+pub mod Stacks
+pub mod Bins
+pub mod Sizes

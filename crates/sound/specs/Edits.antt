@@ -1,0 +1,319 @@
+-- The primitives on tiles: what each comes to at a chunk in place, and that it keeps the heap's shape and words. All by one law: a middle is put in
+-- another's place (mid). Assumes nothing.
+use mathlib.Core.Path.{_≡_, refl, sym, ap, _∙_, subst}
+use mathlib.Core.List.{List, [], _∷_, _++_, append-assoc}
+use mathlib.Core.Logic.{⊎-elim}
+use Prim.Native.Nat.{ℕ, _+_, _-_, _/_, _%_, _≤_}
+use native.Mathlib.Omega.{arith}
+use lib.ListN.{length, getD}
+use Rattle.sizes.specs.Layout.{prevWord}
+use Rattle.machine.specs.Lists.{cnt}
+use Rattle.machine.specs.Count.{eq?, ind-other, cnt-here, cnt-there}
+use Rattle.machine.specs.Heap.{Tile, tile, Heap, withTiles, endFrom, startsFrom, upTo, since, hdSize, topOf, topSize, starts, sizeOf, total}
+use Rattle.machine.specs.Writes.{Write, who, put, apply, does, size, note}
+use Rattle.machine.specs.Primitives.{swallow, clearP, setP, setNote, cutAt, toTop}
+use Rattle.sound.specs.Relation.{all, fits, tilesAt, Mem, Shape}
+use Rattle.sound.specs.Tiles.{zero-or, fits-split, fits-join, end-even, end-append, starts-append, Start, start, up-to, since-at, Place, place, tiles-split}
+use Rattle.sound.specs.Frames.{Starts, Grid, grid, field-lt, put-length, put-other, put-same, HeadW, retile, Within, words-mid}
+
+-- ---- what stands at the end of a
+pub tiles-at : (h : Heap) (a r : List Tile) → h .tiles ≡ a ++ r → fits a → (upTo 0 (endFrom 0 a) (h .tiles) ≡ a) × (since 0 (endFrom 0 a) (h .tiles) ≡ r)
+tiles-at h a r e f = (rw e (up-to 0 a r f), rw e (since-at 0 a r f))
+
+pub size-at : (h : Heap) (a z : List Tile) (t : Tile) → h .tiles ≡ a ++ t ∷ z → fits a → sizeOf h (endFrom 0 a) ≡ t .size
+size-at h a z t e f = ap hdSize (tiles-at h a (t ∷ z) e f .1)
+
+pub snoc-end : (a : List Tile) (t : Tile) → endFrom 0 (a ++ t ∷ []) ≡ endFrom 0 a + t .size
+snoc-end a t = end-append 0 a (t ∷ [])
+
+pub snoc-tiles : (a z : List Tile) (t : Tile) → (a ++ t ∷ []) ++ z ≡ a ++ t ∷ z
+snoc-tiles a z t = append-assoc a (t ∷ []) z
+
+pub size-next : (h : Heap) (a z : List Tile) (t u : Tile) → h .tiles ≡ a ++ t ∷ u ∷ z → fits (a ++ t ∷ []) → sizeOf h (endFrom 0 a + t .size) ≡ u .size
+size-next h a z t u e f = rw (snoc-end a t) at (size-at h (a ++ t ∷ []) z u (e ∙ sym (snoc-tiles a (u ∷ z) t)) f)
+
+-- ---- a middle is put in another's place
+pub top-mid : (h : Heap) (a m n z : List Tile) → h .tiles ≡ a ++ (m ++ z) → endFrom (endFrom 0 a) m ≡ endFrom (endFrom 0 a) n
+    → topOf (withTiles (a ++ (n ++ z)) h) ≡ topOf h
+top-mid h a m n z e q =
+    end-append 0 a (n ++ z) ∙ end-append (endFrom 0 a) n z ∙ ap (λ (o : ℕ). endFrom o z) (sym q)
+    ∙ sym (end-append (endFrom 0 a) m z) ∙ sym (end-append 0 a (m ++ z)) ∙ ap (endFrom 0) (sym e)
+
+pub all-mid : (h : Heap) (a m n z : List Tile) → h .tiles ≡ a ++ (m ++ z) → endFrom (endFrom 0 a) m ≡ endFrom (endFrom 0 a) n
+    → (all h ≡ a ++ (m ++ (z ++ tile (topSize h) 1 0 ∷ []))) × (all (withTiles (a ++ (n ++ z)) h) ≡ a ++ (n ++ (z ++ tile (topSize h) 1 0 ∷ [])))
+all-mid h a m n z e q =
+    let T : List Tile = tile (topSize h) 1 0 ∷ [] in
+    let one : (m : List Tile) → (a ++ (m ++ z)) ++ T ≡ a ++ (m ++ (z ++ T)) = λ m. append-assoc a (m ++ z) T ∙ ap (λ (l : List Tile). a ++ l) (append-assoc m z T) in (
+      ap (λ (l : List Tile). l ++ T) e ∙ one m,
+      ap (λ (o : ℕ). (a ++ (n ++ z)) ++ tile (h .len - o) 1 0 ∷ []) (top-mid h a m n z e q) ∙ one n,
+    )
+
+-- a tile of the same size in the place of u: the starts stay
+pub same-starts : (h : Heap) (a z : List Tile) (u v : Tile) → h .tiles ≡ a ++ u ∷ z → v .size ≡ u .size → (x : ℕ)
+    → cnt x (startsFrom 0 (a ++ v ∷ z)) ≡ cnt x (starts h)
+same-starts h a z u v e q x = omega (
+  arith,
+  ap (λ (l : List Tile). cnt x (startsFrom 0 l)) e,
+  starts-append 0 a (u ∷ z) x,
+  starts-append 0 a (v ∷ z) x,
+  ap (λ (o : ℕ). cnt x (startsFrom (endFrom 0 a + o) z)) q,
+)
+
+head-within : (o : ℕ) (n : List Tile) (ws : List Write) → o % 16 ≡ 0 → fits n → HeadW (startsFrom o n) ws → Within (o / 8) (endFrom o n / 8) ws
+head-within o n [] e f k = tt
+head-within o n (x ∷ ws) e f k =
+    let s : Start n o (who x) = start n o (who x) f (k .1) in
+    (omega (arith, s .low), omega (arith, s .high, s .even, k .0, field-lt x), head-within o n ws e f (k .2))
+
+head-more : (L M : List ℕ) (ws : List Write) → ((x : ℕ) → 1 ≤ cnt x L → 1 ≤ cnt x M) → HeadW L ws → HeadW M ws
+head-more L M [] s k = tt
+head-more L M (e ∷ ws) s k = (k .0, s (who e) (k .1), head-more L M ws s (k .2))
+
+pub mid-mem : (h : Heap) (w : List ℕ) (ts a m n z : List Tile) (ws : List Write) → Shape h → Mem h w → Shape (withTiles ts h)
+    → all h ≡ a ++ (m ++ z) → all (withTiles ts h) ≡ a ++ (n ++ z) → endFrom (endFrom 0 a) m ≡ endFrom (endFrom 0 a) n
+    → HeadW (startsFrom (endFrom 0 a) n) ws → tilesAt (apply ws w) (endFrom 0 a) n → Mem (withTiles ts h) (apply ws w)
+mid-mem h w ts a m n z ws s k s′ e e′ q hw kn =
+    let c : ℕ = endFrom 0 a in
+    let f : fits (a ++ (m ++ z)) = subst fits e (s .fit) in
+    let fa : fits a × fits (m ++ z) = fits-split a (m ++ z) f in
+    let fn : fits n × fits z = fits-split n z (fits-split a (n ++ z) (subst fits e′ (s′ .fit)) .1) in
+    let ce : c % 16 ≡ 0 = end-even 0 a refl (fa .0) in
+    let st : (x : ℕ) → cnt x (Starts (withTiles ts h)) ≡ cnt x (startsFrom 0 a) + (cnt x (startsFrom c n) + cnt x (startsFrom (endFrom c n) z))
+    = λ x. ap (λ (l : List Tile). cnt x (startsFrom 0 l)) e′ ∙ starts-append 0 a (n ++ z) x
+    ∙ ap (λ (i : ℕ). cnt x (startsFrom 0 a) + i) (starts-append c n z x) in
+    retile h w ts ws k s′
+    (head-more (startsFrom c n) (Starts (withTiles ts h)) ws (λ x i. omega (arith, st x)) hw)
+    (subst (tilesAt (apply ws w) 0) (sym e′)
+    (words-mid w ws a m n z f (fn .0) q (rw q (head-within c n ws ce (fn .0) hw)) kn (subst (tilesAt w 0) e (k .words))))
+
+pub mid-shape : (h : Heap) (ts a m n z : List Tile) → Shape h → all h ≡ a ++ (m ++ z) → all (withTiles ts h) ≡ a ++ (n ++ z) → fits n
+    → ((x : ℕ) → 1 ≤ total x h → cnt x (starts h) ≤ cnt x (startsFrom 0 ts)) → Shape (withTiles ts h)
+mid-shape h ts a m n z s e e′ fn keep =
+    let fa : fits a × fits (m ++ z) = fits-split a (m ++ z) (subst fits e (s .fit)) in
+    let fm : fits m × fits z = fits-split m z (fa .1) in
+    record {
+      small = s .small;
+      fit = subst fits (sym e′) (fits-join a (n ++ z) (fa .0) (fits-join n z fn (fm .1)));
+      stacked74 =
+          s .stacked74;
+      binned127 = s .binned127;
+      own = λ x. ⊎-elim (λ z. omega arith) (λ z. omega (arith, keep x z, s .own x)) (zero-or (total x h));
+    }
+
+-- what an edit of the tiles leaves
+pub record Kept (h : Heap) (ts : List Tile) (w : List ℕ) (ws : List Write) : Type 0 where
+  pub shape : Shape (withTiles ts h)
+  pub mem : Mem (withTiles ts h) (apply ws w)
+
+-- the whole of it: what is left to show is the middle's own words
+pub mid : (h : Heap) (w : List ℕ) (ts a m n z : List Tile) (ws : List Write) → Shape h → Mem h w
+    → (all h ≡ a ++ (m ++ z)) × (all (withTiles ts h) ≡ a ++ (n ++ z)) → fits n → endFrom (endFrom 0 a) m ≡ endFrom (endFrom 0 a) n
+    → ((x : ℕ) → 1 ≤ total x h → cnt x (starts h) ≤ cnt x (startsFrom 0 ts))
+    → HeadW (startsFrom (endFrom 0 a) n) ws
+    → ((S : List ℕ) → Grid S (length w) → ((x : ℕ) → 1 ≤ cnt x (startsFrom (endFrom 0 a) n) → 1 ≤ cnt x S) → tilesAt w (endFrom 0 a) m
+    → tilesAt (apply ws w) (endFrom 0 a) n)
+    → Kept h ts w ws
+mid h w ts a m n z ws s k E fn q keep hw own =
+    let c : ℕ = endFrom 0 a in
+    let h′ : Heap = withTiles ts h in
+    let sh : Shape h′ = mid-shape h ts a m n z s (E .0) (E .1) fn keep in
+    let ka : tilesAt w 0 a × tilesAt w c (m ++ z) = tiles-split w 0 a (m ++ z) (subst (tilesAt w 0) (E .0) (k .words)) in
+    record {
+      shape = sh;
+      mem = mid-mem h w ts a m n z ws s k sh (E .0) (E .1) q hw
+          (own (Starts h′) (grid h′ (length w) (sh .fit) (k .long))
+          (λ x i. omega (arith, ap (λ (l : List Tile). cnt x (startsFrom 0 l)) (E .1), starts-append 0 a (n ++ z) x, starts-append c n z x))
+          (tiles-split w c m z (ka .1) .0));
+    }
+
+pub fits-tiles : (h : Heap) → Shape h → fits (h .tiles)
+fits-tiles h s = fits-split (h .tiles) (tile (topSize h) 1 0 ∷ []) (s .fit) .0
+
+zeroth : (v : List ℕ) (c : ℕ) → getD v (prevWord c) 0 ≡ getD v (c / 8 + 0) 0
+zeroth v c = ap (λ (i : ℕ). getD v i 0) (let e : c / 8 ≡ c / 8 + 0 = omega arith in e)
+
+-- ---- c takes in the next chunk, which no list has
+module _ (h : Heap) (w : List ℕ) (a z : List Tile) (t u : Tile) (e : h .tiles ≡ a ++ t ∷ u ∷ z) (s : Shape h) where
+  fa : fits a × fits (t ∷ u ∷ z)
+  fa = fits-split a (t ∷ u ∷ z) (subst fits e (fits-tiles h s))
+
+  pub swallow-is : swallow (endFrom 0 a) h ≡ does (withTiles (a ++ tile (t .size + u .size) 1 0 ∷ z) h) (size (endFrom 0 a) (t .size + u .size) 1 ∷ [])
+  swallow-is =
+      let f = fa in
+      let p = tiles-at h a (t ∷ u ∷ z) e (f .0) in
+      rw (p .0, p .1) (rw (size-next h a z t u e (fits-join a (t ∷ []) (f .0) (f .1 .0, f .1 .1, f .1 .2, tt))))
+
+  pub swallow-kept : Mem h w → total (endFrom 0 a + t .size) h ≡ 0 → Kept h (a ++ tile (t .size + u .size) 1 0 ∷ z) w (size (endFrom 0 a) (t .size + u .size) 1 ∷ [])
+  swallow-kept k lo =
+      let f = fa in
+      let c : ℕ = endFrom 0 a in
+      let U : Tile = tile (t .size + u .size) 1 0 in
+      let ez : c + t .size + u .size ≡ c + (t .size + u .size) = omega arith in
+      mid h w (a ++ U ∷ z) a (t ∷ u ∷ []) (U ∷ []) (z ++ tile (topSize h) 1 0 ∷ []) (size c (t .size + u .size) 1 ∷ []) s k
+      (all-mid h a (t ∷ u ∷ []) (U ∷ []) z e (omega arith))
+      (omega (arith, f .1 .0, f .1 .3 .0), omega (arith, f .1 .1), omega arith, tt) (omega arith)
+      (λ x i. ⊎-elim
+      (λ q. absurd (omega (arith, ap (λ (y : ℕ). total y h) q)))
+      (λ q. omega (
+        arith,
+        ap (λ (l : List Tile). cnt x (startsFrom 0 l)) e,
+        starts-append 0 a (t ∷ u ∷ z) x,
+        starts-append 0 a
+            (U ∷ z) x,
+        ind-other x (c + t .size) q,
+        ap (λ (o : ℕ). cnt x (startsFrom o z)) ez,
+      ))
+      (eq? x (c + t .size)))
+      (omega arith, cnt-here c [], tt)
+      (λ S g sub old. (put-same S (length w) g (size c (t .size + u .size) 1) w refl (sub c (cnt-here c [])), (λ n. absurd (omega (arith, n))), tt))
+
+-- ---- P and the note of a chunk; a chunk is cut
+module _ (h : Heap) (w : List ℕ) (a z : List Tile) (u : Tile) (e : h .tiles ≡ a ++ u ∷ z) (s : Shape h) where
+  fu : fits a × fits (u ∷ z)
+  fu = fits-split a (u ∷ z) (subst fits e (fits-tiles h s))
+
+  pub clear-is : (n : ℕ) → clearP (endFrom 0 a) n h ≡ does (withTiles (a ++ tile (u .size) 0 n ∷ z) h) (size (endFrom 0 a) (u .size) 0 ∷ note (endFrom 0 a) n ∷ [])
+  clear-is n = let p = tiles-at h a (u ∷ z) e (fu .0) in rw (p .0, p .1)
+
+  pub clear-kept : (n : ℕ) → Mem h w → Kept h (a ++ tile (u .size) 0 n ∷ z) w (size (endFrom 0 a) (u .size) 0 ∷ note (endFrom 0 a) n ∷ [])
+  clear-kept n k =
+      let f = fu in
+      let c : ℕ = endFrom 0 a in
+      let U : Tile = tile (u .size) 0 n in
+      let w1 : List ℕ = put (size c (u .size) 0) w in
+      let l1 : length w1 ≡ length w = put-length (size c (u .size) 0) w in
+      mid h w (a ++ U ∷ z) a (u ∷ []) (U ∷ []) (z ++ tile (topSize h) 1 0 ∷ []) (size c (u .size) 0 ∷ note c n ∷ []) s k
+      (all-mid h a (u ∷ []) (U ∷ []) z e refl) (f .1 .0, f .1 .1, omega arith, tt) refl (λ x i. omega (arith, same-starts h a z u U e refl x))
+      (omega arith, cnt-here c [], (omega arith, cnt-here c [], tt))
+      (λ S g sub old.
+      let mc : 1 ≤ cnt c S = sub c (cnt-here c []) in (
+        put-other S (length w) g (note c n) w1 c 1 mc mc (omega arith) (λ q. omega arith) ∙ put-same S (length w) g (size c (u .size) 0) w refl mc,
+        (λ p. zeroth (put (note c n) w1) c ∙ put-same S (length w) g (note c n) w1 l1 mc),
+        tt,
+      ))
+
+  pub set-is : setP (endFrom 0 a) h ≡ does (withTiles (a ++ tile (u .size) 1 0 ∷ z) h) (size (endFrom 0 a) (u .size) 1 ∷ [])
+  set-is = let p = tiles-at h a (u ∷ z) e (fu .0) in rw (p .0, p .1)
+
+  pub set-kept : Mem h w → Kept h (a ++ tile (u .size) 1 0 ∷ z) w (size (endFrom 0 a) (u .size) 1 ∷ [])
+  set-kept k =
+      let f = fu in
+      let c : ℕ = endFrom 0 a in
+      let U : Tile = tile (u .size) 1 0 in
+      mid h w (a ++ U ∷ z) a (u ∷ []) (U ∷ []) (z ++ tile (topSize h) 1 0 ∷ []) (size c (u .size) 1 ∷ []) s k
+      (all-mid h a (u ∷ []) (U ∷ []) z e refl) (f .1 .0, f .1 .1, omega arith, tt) refl (λ x i. omega (arith, same-starts h a z u U e refl x))
+      (omega arith, cnt-here c [], tt)
+      (λ S g sub old. (put-same S (length w) g (size c (u .size) 1) w refl (sub c (cnt-here c [])), (λ p. absurd (omega (arith, p))), tt))
+
+  pub note-is : (n : ℕ) → setNote (endFrom 0 a) n h ≡ does (withTiles (a ++ tile (u .size) (u .p) n ∷ z) h) (note (endFrom 0 a) n ∷ [])
+  note-is n = let p = tiles-at h a (u ∷ z) e (fu .0) in rw (p .0, p .1)
+
+  pub note-kept : (n : ℕ) → Mem h w → Kept h (a ++ tile (u .size) (u .p) n ∷ z) w (note (endFrom 0 a) n ∷ [])
+  note-kept n k =
+      let f = fu in
+      let c : ℕ = endFrom 0 a in
+      let U : Tile = tile (u .size) (u .p) n in
+      mid h w (a ++ U ∷ z) a (u ∷ []) (U ∷ []) (z ++ tile (topSize h) 1 0 ∷ []) (note c n ∷ []) s k
+      (all-mid h a (u ∷ []) (U ∷ []) z e refl) (f .1 .0, f .1 .1, f .1 .2, tt) refl (λ x i. omega (arith, same-starts h a z u U e refl x))
+      (omega arith, cnt-here c [], tt)
+      (λ S g sub old.
+      let mc : 1 ≤ cnt c S = sub c (cnt-here c []) in (
+        put-other S (length w) g (note c n) w c 1 mc mc (omega arith) (λ q. omega arith)
+            ∙ old .0,
+        (λ p. zeroth (put (note c n) w) c ∙ put-same S (length w) g (note c n) w refl mc),
+        tt,
+      ))
+
+  pub cut-is : (b : ℕ) → cutAt (endFrom 0 a) b h ≡ does (withTiles (a ++ tile b 1 0 ∷ tile (u .size - b) 1 0 ∷ z) h)
+      (size (endFrom 0 a) b 1 ∷ size (endFrom 0 a + b) (u .size - b) 1 ∷ [])
+  cut-is b = let p = tiles-at h a (u ∷ z) e (fu .0) in rw (p .0, p .1)
+
+  pub cut-kept : (b : ℕ) → b % 16 ≡ 0 → 32 ≤ b → b + 32 ≤ u .size → Mem h w
+      → Kept h (a ++ tile b 1 0 ∷ tile (u .size - b) 1 0 ∷ z) w (size (endFrom 0 a) b 1 ∷ size (endFrom 0 a + b) (u .size - b) 1 ∷ [])
+  cut-kept b b16 b32 bu k =
+      let f = fu in
+      let c : ℕ = endFrom 0 a in
+      let U : List Tile = tile b 1 0 ∷ tile (u .size - b) 1 0 ∷ [] in
+      let e1 : Write = size c b 1 in
+      let e2 : Write = size (c + b) (u .size - b) 1 in
+      let w1 : List ℕ = put e1 w in
+      let ez : c + b + (u .size - b) ≡ c + u .size = omega arith in
+      let i1 : 1 ≤ cnt c (c ∷ (c + b) ∷ []) = cnt-here c ((c + b) ∷ []) in
+      let i2 : 1 ≤ cnt (c + b) (c ∷ (c + b) ∷ []) = cnt-there (c + b) c ((c + b) ∷ []) (cnt-here (c + b) []) in
+      mid h w (a ++ tile b 1 0 ∷ tile (u .size - b) 1 0 ∷ z) a (u ∷ []) U (z ++ tile (topSize h) 1 0 ∷ []) (e1 ∷ e2 ∷ []) s k
+      (all-mid h a (u ∷ []) U z e (sym ez)) (b16, b32, omega arith, (omega (arith, f .1 .0), omega arith, omega arith, tt)) (sym ez)
+      (λ x i. omega (
+        arith,
+        ap (λ (l : List Tile). cnt x (startsFrom 0 l)) e,
+        starts-append 0 a (u ∷ z) x,
+        starts-append 0 a
+            (tile b 1 0 ∷ tile (u .size - b) 1 0 ∷ z) x,
+        ap (λ (o : ℕ). cnt x (startsFrom o z)) ez,
+      ))
+      (omega arith, i1, (omega arith, i2, tt))
+      (λ S g sub old. (
+        put-other S (length w) g e2 w1 c 1 (sub (c + b) i2) (sub c i1) (omega arith) (λ q r. omega arith) ∙ put-same S (length w) g e1 w refl (sub c i1),
+        (λ p. absurd (omega (arith, p))),
+        (put-same S (length w) g e2 w1 (put-length e1 w) (sub (c + b) i2), (λ p. absurd (omega (arith, p))), tt),
+      ))
+
+-- ---- the last chunk becomes part of the top; a chunk is cut off the top
+pub to-top-is : (h : Heap) (a : List Tile) (t : Tile) → h .tiles ≡ a ++ t ∷ [] → Shape h
+    → toTop (endFrom 0 a) h ≡ does (withTiles a h) (size (endFrom 0 a) (h .len - endFrom 0 a) 1 ∷ [])
+to-top-is h a t e s = let p = tiles-at h a (t ∷ []) e (fits-split a (t ∷ []) (subst fits e (fits-tiles h s)) .0) in rw (p .0)
+
+pub to-top-kept : (h : Heap) (w : List ℕ) (a : List Tile) (t : Tile) → h .tiles ≡ a ++ t ∷ [] → Shape h → Mem h w → total (endFrom 0 a) h ≡ 0
+    → Kept h a w (size (endFrom 0 a) (h .len - endFrom 0 a) 1 ∷ [])
+to-top-kept h w a t e s k lo =
+    let c : ℕ = endFrom 0 a in
+    let f : fits a × fits (t ∷ []) = fits-split a (t ∷ []) (subst fits e (fits-tiles h s)) in
+    let n : ℕ = topSize h in
+    let U : Tile = tile (h .len - c) 1 0 in
+    let et : topOf h ≡ c + t .size = ap (endFrom 0) e ∙ snoc-end a t in
+    let ft : fits (h .tiles) × fits (tile n 1 0 ∷ []) = fits-split (h .tiles) (tile n 1 0 ∷ []) (s .fit) in
+    let q : c + t .size + n ≡ c + (h .len - c) = omega (arith, ft .1 .1) in
+    mid h w a a (t ∷ tile n 1 0 ∷ []) (U ∷ []) [] (size c (h .len - c) 1 ∷ []) s k
+    (ap (λ (l : List Tile). l ++ tile n 1 0 ∷ []) e ∙ snoc-tiles a (tile n 1 0 ∷ []) t, refl)
+    (omega (arith, ft .1 .0, f .1 .0, ft .1 .1), omega (arith, ft .1 .1), omega arith, tt) q
+    (λ x i. ⊎-elim
+    (λ z. absurd (omega (arith, ap (λ (y : ℕ). total y h) z)))
+    (λ z. omega (arith, ap (λ (l : List Tile). cnt x (startsFrom 0 l)) e, starts-append 0 a (t ∷ []) x, ind-other x c z))
+    (eq? x c))
+    (omega arith, cnt-here c [], tt)
+    (λ S g sub old. (put-same S (length w) g (size c (h .len - c) 1) w refl (sub c (cnt-here c [])), (λ p. absurd (omega (arith, p))), tt))
+
+pub cut-top-kept : (h : Heap) (w : List ℕ) (b : ℕ) → Shape h → Mem h w → b % 16 ≡ 0 → 32 ≤ b → b + 32 ≤ topSize h
+    → Kept h (h .tiles ++ tile b 1 0 ∷ []) w (size (topOf h) b 1 ∷ size (topOf h + b) (h .len - (topOf h + b)) 1 ∷ [])
+cut-top-kept h w b s k b16 b32 bu =
+    let a : List Tile = h .tiles in
+    let c : ℕ = endFrom 0 a in
+    let n : ℕ = h .len - c in
+    let m : ℕ = h .len - (c + b) in
+    let ft : fits a × fits (tile n 1 0 ∷ []) = fits-split a (tile n 1 0 ∷ []) (s .fit) in
+    let e1 : Write = size c b 1 in
+    let e2 : Write = size (c + b) m 1 in
+    let w1 : List ℕ = put e1 w in
+    let i1 : 1 ≤ cnt c (c ∷ (c + b) ∷ []) = cnt-here c ((c + b) ∷ []) in
+    let i2 : 1 ≤ cnt (c + b) (c ∷ (c + b) ∷ []) = cnt-there (c + b) c ((c + b) ∷ []) (cnt-here (c + b) []) in
+    mid h w (a ++ tile b 1 0 ∷ []) a (tile n 1 0 ∷ []) (tile b 1 0 ∷ tile m 1 0 ∷ []) [] (e1 ∷ e2 ∷ []) s k
+    (refl, rw (snoc-end a (tile b 1 0)) (snoc-tiles a (tile m 1 0 ∷ []) (tile b 1 0)))
+    (b16, b32, omega arith, (omega (arith, ft .1 .0), omega arith, omega arith, tt)) (omega arith)
+    (λ x i. omega (arith, starts-append 0 a (tile b 1 0 ∷ []) x))
+    (omega arith, i1, (omega arith, i2, tt))
+    (λ S g sub old. (
+      put-other S (length w) g e2 w1 c 1 (sub (c + b) i2) (sub c i1) (omega arith) (λ q r. omega arith) ∙ put-same S (length w) g e1 w refl (sub c i1),
+      (λ p. absurd (omega (arith, p))),
+      (put-same S (length w) g e2 w1 (put-length e1 w) (sub (c + b) i2), (λ p. absurd (omega (arith, p))), tt),
+    ))
+
+-- ---- a chunk's size
+pub size-place : (h : Heap) (x : ℕ) → Shape h → (P : Place (h .tiles) 0 x) → (sizeOf h x ≡ P .t .size) × (P .t .size % 16 ≡ 0) × (32 ≤ P .t .size) × (x % 16 ≡ 0)
+size-place h x s P =
+    let f : fits (P .a) × fits (P .t ∷ P .z) = fits-split (P .a) (P .t ∷ P .z) (subst fits (P .tiles) (fits-tiles h s)) in
+    (ap (sizeOf h) (P .at) ∙ size-at h (P .a) (P .z) (P .t) (P .tiles) (f .0), f .1 .0, f .1 .1, omega (arith, P .at, end-even 0 (P .a) refl (f .0)))
+
+pub size-32 : (h : Heap) (x : ℕ) → Shape h → 1 ≤ cnt x (starts h) → 32 ≤ sizeOf h x
+size-32 h x s m = let Z = size-place h x s (place (h .tiles) 0 x m) in omega (arith, Z .0, Z .2)
+
+pub size-16 : (h : Heap) (x : ℕ) → Shape h → 1 ≤ cnt x (starts h) → sizeOf h x % 16 ≡ 0
+size-16 h x s m = let Z = size-place h x s (place (h .tiles) 0 x m) in omega (arith, Z .0, Z .1)

@@ -1,0 +1,133 @@
+-- Live blocks: what release, settle and grant do to the loose chunks. Every other loose chunk stays loose, of its size, and none of its usable words is
+-- written; release takes its chunk away, and grant gives one that was not loose before. Read off the counts of each step. Assumes nothing.
+use mathlib.Core.Path.{_≡_, refl, sym, ap, subst}
+use mathlib.Core.List.{List}
+use mathlib.Core.Bool.{true}
+use Prim.Native.Nat.{ℕ, _+_, _/_, _%_, _≤_}
+use native.Mathlib.Omega.{arith}
+use lib.Dec.{eqb, ltb}
+use lib.ListN.{getD}
+use borrow.Author.Tests.{eq-eqb, eqb-true, lt-ltb, ltb-true}
+use Rattle.machine.specs.Lists.{both, cnt}
+use Rattle.machine.specs.Count.{ind-same, ind-other}
+use Rattle.machine.specs.Heap.{Heap, starts, sizeOf, total, live?}
+use Rattle.machine.specs.Writes.{apply, Ran, heapOf, writes, ran}
+use Rattle.machine.specs.Release.{join, release, consolidate, settle}
+use Rattle.machine.specs.Grant.{grant}
+use Rattle.sound.specs.Relation.{Mem, Shape, Loose, Good}
+use Rattle.sound.specs.Tiles.{starts-once}
+use Rattle.sound.specs.Edits.{fits-tiles}
+use Rattle.sound.specs.Spares.{Spares, spared}
+use Rattle.sound.specs.Moves.{answerOf, nil, one, any, Moved, moved-keeps}
+use Rattle.sound.specs.JoinMoves.{join-moved}
+use Rattle.sound.specs.Leaves.{Leaves, gave, Still, Cached, Found}
+use Rattle.sound.specs.Release.{both-true, release-leaves}
+use Rattle.sound.specs.Settle.{Consolidated, consolidate-leaves, Settled, settle-leaves}
+use Rattle.sound.specs.Grant.{grant-leaves}
+use Rattle.machine.specs.declared.{Got.Got, Got.the-variants.At, Got.the-variants.Nothing}
+
+-- ---- live, as release asks it, is loose
+pub live-loose : (h : Heap) (c : ℕ) → live? h c ≡ true → Loose h c
+live-loose h c e =
+    let t = both-true (ltb 0 (cnt c (starts h))) (eqb (total c h) 0) e in
+    omega (arith, ltb-true 0 (cnt c (starts h)) (t .0), eqb-true (total c h) 0 (t .1))
+
+pub loose-live : (h : Heap) (c : ℕ) → Shape h → Loose h c → live? h c ≡ true
+loose-live h c s lo =
+    let once : cnt c (starts h) ≤ 1 = starts-once (h .tiles) 0 c (fits-tiles h s) in
+    rw (lt-ltb 0 (cnt c (starts h)) (omega arith), both) (eq-eqb (total c h) 0 (omega arith))
+
+-- of the blocks of which X holds: they stay as they are, and none of their usable words is written
+pub record Tame {A : Type 0} (X : ℕ → Type 0) (h : Heap) (r : Ran A) : Type 0 where
+  pub keeps : (x : ℕ) → X x → Loose h x → Loose (heapOf r) x × (sizeOf (heapOf r) x ≡ sizeOf h x)
+  pub spare : (x : ℕ) → X x → Loose h x → Spares x (sizeOf h x) (writes r)
+
+abbrev pub But : ℕ → ℕ → Type 0
+But c x = x ≡ c → ⊥
+
+pub moved-tame : {A : Type 0} {X : ℕ → Type 0} {h : Heap} {r : Ran A} {i : A → ℕ → ℕ} {o : ℕ → ℕ} → ((x : ℕ) → X x → o x ≡ 0) → Moved h r i o → Tame X h r
+moved-tame e m = record {
+  keeps = λ x y lo. (moved-keeps m x lo (e x y), m .same x lo (e x y));
+  spare = λ x y lo. m .spare x lo (e x y);
+}
+
+-- the usable words of a block that the step spares are as they were
+pub tame-words : {A : Type 0} (X : ℕ → Type 0) (h : Heap) (r : Ran A) (w : List ℕ) → Tame X h r → (x : ℕ) → X x → Loose h x
+    → (i : ℕ) → x / 8 + 2 ≤ i → i ≤ (x + sizeOf h x) / 8 → getD (apply (writes r) w) i 0 ≡ getD w i 0
+tame-words X h r w t x y lo i l u = spared x (sizeOf h x) (writes r) w i (t .spare x y lo) l u
+
+-- ---- the chunk c goes, and no other comes or goes
+pub record Goes {A : Type 0} (c : ℕ) (h : Heap) (r : Ran A) : Type 0 where
+  pub tame : Tame (But c) h r
+  pub gone : Loose (heapOf r) c → ⊥
+  pub only : (x : ℕ) → Loose (heapOf r) x → Loose h x
+
+moved-goes : {A : Type 0} (c : ℕ) (h : Heap) (r : Ran A) → Shape h → Moved h r (any nil) (one c) → Goes c h r
+moved-goes c h r s m = record {
+  tame = moved-tame (λ x y. ind-other x c y) m;
+  gone = λ lo. omega (arith, m .count c, ind-same c, starts-once (h .tiles) 0 c (fits-tiles h s));
+  only = λ x lo. omega (arith, m .count x);
+}
+
+-- ---- all stay, and no other comes
+pub record Stays {A : Type 0} (h : Heap) (r : Ran A) : Type 0 where
+  pub tame : Tame (λ x. Unit {0}) h r
+  pub only : (x : ℕ) → Loose (heapOf r) x → Loose h x
+
+moved-stays : {A : Type 0} (h : Heap) (r : Ran A) → Moved h r (any nil) nil → Stays h r
+moved-stays h r m = record {
+  tame = moved-tame (λ x y. refl) m;
+  only = λ x lo. omega (arith, m .count x);
+}
+
+-- ---- all stay, and what is given comes
+pub record Gives (b : ℕ) (h : Heap) (r : Ran Got) : Type 0 where
+  pub tame : Tame (λ x. Unit {0}) h r
+  pub given : (c : ℕ) → answerOf r ≡ At c → Loose (heapOf r) c × (b ≤ sizeOf (heapOf r) c) × (Loose h c → ⊥)
+  pub only : (x : ℕ) → (answerOf r ≡ At x → ⊥) → Loose (heapOf r) x → Loose h x
+
+found-gives : (b : ℕ) (h : Heap) (w : List ℕ) (r : Ran Got) → Shape h → Leaves h w r (Found b h) gave nil → Gives b h r
+found-gives b h w (ran g ws (At c)) s l = record {
+  tame = moved-tame (λ x y. refl) (l .moved);
+  given = λ d e.
+      let q : c ≡ d = cc in
+      let n = l .moved .count c in
+      subst (λ (d : ℕ). Loose g d × (b ≤ sizeOf g d) × (Loose h d → ⊥)) q (
+        omega (arith, n, ind-same c, s .own c),
+        l .now .1,
+        (λ lo. omega (arith, n, ind-same c, lo, l .now .0 .shape .own c, starts-once (g .tiles) 0 c (fits-tiles g (l .now .0 .shape)))),
+      );
+  only = λ x e lo. omega (arith, l .moved .count x, ind-other x c (λ q. e (ap At (sym q))));
+}
+found-gives b h w (ran g ws Nothing) s l = record {
+  tame = moved-tame (λ x y. refl) (l .moved);
+  given = λ d e. absurd (let z : _≡_ {A = ℕ} 0 1 = cc in omega arith);
+  only = λ x e lo. omega (arith, l .moved .count x);
+}
+
+-- ---- join, release, settle, grant
+pub join-goes : (h : Heap) (w : List ℕ) (c : ℕ) → Good h → Mem h w → Loose h c → Goes c h (join c h)
+join-goes h w c g m lo = moved-goes c h (join c h) (g .shape) (join-moved h w c g m lo)
+
+pub release-goes : (h : Heap) (w : List ℕ) (c : ℕ) → Good h → Mem h w → Loose h c → Goes c h (release c h)
+release-goes h w c g m lo = moved-goes c h (release c h) (g .shape) (release-leaves h w c g m lo .moved)
+
+pub consolidate-stays : (h : Heap) (w : List ℕ) → Good h → Mem h w → Stays h (consolidate h)
+consolidate-stays h w g m = moved-stays h (consolidate h) (consolidate-leaves h w g m .moved)
+
+pub settle-stays : (h : Heap) (w : List ℕ) → Good h → Mem h w → Stays h (settle h)
+settle-stays h w g m = moved-stays h (settle h) (settle-leaves h w g m .moved)
+
+pub grant-gives : (b : ℕ) → b % 16 ≡ 0 → 32 ≤ b → (h : Heap) (w : List ℕ) → Good h → Mem h w → Gives b h (grant b h)
+grant-gives b b16 b32 h w g m = found-gives b h w (grant b h) (g .shape) (grant-leaves b b16 b32 h w g m)
+
+-- ---- a refused grant leaves the cache lists and the last remainder as they were
+pub grant-refused : (b : ℕ) → b % 16 ≡ 0 → 32 ≤ b → (h : Heap) (w : List ℕ) → Good h → Mem h w → answerOf (grant b h) ≡ Nothing → Still Cached h (heapOf (grant b h))
+grant-refused b b16 b32 h w g m e = subst (λ (x : Got). Found b h x (heapOf (grant b h))) e (grant-leaves b b16 b32 h w g m .now) .1
+
+-- ---- consolidation leaves every fast list empty, and the cache lists as they were
+pub consolidate-empties : (h : Heap) (w : List ℕ) → Good h → Mem h w → Consolidated h (heapOf (consolidate h))
+consolidate-empties h w g m = consolidate-leaves h w g m .now
+
+pub settle-empties : (h : Heap) (w : List ℕ) → Good h → Mem h w → Settled (heapOf (settle h))
+settle-empties h w g m = settle-leaves h w g m .now

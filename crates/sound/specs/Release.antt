@@ -1,0 +1,130 @@
+-- Release, and release past the cache: from any sound heap and any loose chunk the heap stays sound, and the chunk alone goes from the loose ones.
+-- By the ways through the tests. Assumes nothing.
+use mathlib.Core.Path.{_≡_, refl, sym, ap, _∙_}
+use mathlib.Core.List.{List, [], _∷_}
+use mathlib.Core.Bool.{Bool, true, false}
+use Prim.Native.Nat.{ℕ, _+_, _-_, _*_, _%_, _≤_, _<_}
+use native.Mathlib.Omega.{arith}
+use lib.Dec.{eqb, ltb, leb}
+use lib.ListN.{length, getD}
+use lib.Seq.{getD-set-other}
+use borrow.Author.Tests.{lt-ltb, le-ltb, ltb-true, leb-true}
+use Rattle.sizes.specs.Limits.{mostCached, cacheRoom, mostFast}
+use Rattle.sizes.specs.Sizes.{cacheOf, fastOf}
+use Rattle.sizes.specs.SizesLaws.{cacheOf-size, fastOf-size, cacheOf-bound, fastOf-bound}
+use Rattle.machine.specs.Lists.{both, cnt}
+use Rattle.machine.specs.Heap.{Heap, stack, cache, fastAt, topOf, starts, sizeOf, pOf, next, before, binned}
+use Rattle.machine.specs.Writes.{Ran, heapOf, more, _>>=_, ran}
+use Rattle.machine.specs.Primitives.{push}
+use Rattle.machine.specs.Release.{absorb, joinNext, putDown, join, releasePast, release}
+use Rattle.sound.specs.Relation.{Mem, Loose, stackSize, Good}
+use Rattle.sound.specs.Edits.{size-32, size-16}
+use Rattle.sound.specs.Join.{join-ends}
+use Rattle.sound.specs.Stacks.{push-ends}
+use Rattle.sound.specs.Moves.{nil, one, any, push-moved}
+use Rattle.sound.specs.JoinMoves.{join-moved}
+use Rattle.sound.specs.Leaves.{Leaves, leaves-weaken, leaves-if, leaves-giving, Still, Cached}
+
+-- ---- a join changes no stack, and not the last remainder
+record Same {A : Type 0} (h : Heap) (r : Ran A) : Type 0 where
+  stacks : heapOf r .stacks ≡ h .stacks
+  remainder : heapOf r .remainder ≡ h .remainder
+
+same-if : {A : Type 0} {h : Heap} (t : Bool) {x y : Ran A} → Same h x → Same h y → Same {A = A} h (elim t [ true ↦ x | false ↦ y ])
+same-if true p q = p
+same-if false p q = q
+
+same-then : {A B : Type 0} {h : Heap} {r : Ran A} (f : Heap → Ran B) → Same h r → ((g : Heap) → Same g (f g)) → Same h (r >>= f)
+same-then {A} {B} {h} {r = ran g ws a} f s k = go (f g) (k g)
+  where
+    go : (r : Ran B) → Same g r → Same h (more ws r)
+    go (ran l vs b) t = record { stacks = t .stacks ∙ s .stacks; remainder = t .remainder ∙ s .remainder }
+
+next-same : (c : ℕ) (h : Heap) → Same h (joinNext c h)
+unfolding joinNext absorb
+next-same c h = same-if (eqb (binned h (next h c)) 0) (record { stacks = refl; remainder = refl }) (record { stacks = refl; remainder = refl })
+
+down-same : (c : ℕ) (h : Heap) → Same h (putDown c h)
+unfolding putDown
+down-same c h = same-if (eqb (next h c) (topOf h)) (record { stacks = refl; remainder = refl }) (record { stacks = refl; remainder = refl })
+
+join-same : (c : ℕ) (h : Heap) → Same h (join c h)
+unfolding join absorb
+join-same c h = same-if (eqb (pOf h c) 0)
+    (same-then {r = absorb (before h c) (before h c) h} (λ h₁. joinNext (before h c) h₁ >>= (λ h₂. putDown (before h c) h₂))
+    (record { stacks = refl; remainder = refl }) (rest (before h c)))
+    (rest c h)
+  where
+    rest : (q : ℕ) (g : Heap) → Same g (joinNext q g >>= (λ h₂. putDown q h₂))
+    rest q g = same-then (λ h₂. putDown q h₂) (next-same q g) (down-same q)
+
+-- every stack
+abbrev pub Every : ℕ → Type 0
+Every k = Unit {0}
+
+pub join-leaves : (h : Heap) (w : List ℕ) (c : ℕ) → Good h → Mem h w → Loose h c → Leaves h w (join c h) (λ a g. Good g × Still Every h g) (any nil) (one c)
+join-leaves h w c g m lo =
+    let E = join-ends h w c g m lo in
+    let S = join-same c h in
+    record {
+      mem = E .mem;
+      now = (E .now, record { lists = λ k i. ap (λ (ls : List (List ℕ)). getD ls k []) (S .stacks); remainder = S .remainder });
+      moved = join-moved h w c g m lo;
+    }
+
+-- ---- a push of a loose chunk
+pub push-leaves : (h : Heap) (w : List ℕ) (k c : ℕ) → k < 74 → Good h → Mem h w → Loose h c → sizeOf h c ≡ stackSize k → (64 ≤ k → sizeOf h c ≤ 128)
+    → (k < 64 → length (stack h k) < 7) → Leaves h w (push k c h) (λ a g. Good g × Still (λ i. i ≡ k → ⊥) h g) (any nil) (one c)
+push-leaves h w k c hk g m lo sz qk sh =
+    let E = push-ends h w k c hk g m lo sz qk sh in
+    record {
+      mem = E .mem;
+      now = (E .now, record { lists = λ i ne. getD-set-other (h .stacks) k i (c ∷ stack h k) [] ne; remainder = refl });
+      moved = push-moved h k c (g .shape) hk lo;
+    }
+
+-- the size that a cache list and a fast list own
+pub stackSize-cache : (s : ℕ) → s % 16 ≡ 0 → 32 ≤ s → s ≤ 1040 → s ≡ stackSize (cacheOf s)
+stackSize-cache s e l m = rw (lt-ltb (cacheOf s) 64 (cacheOf-bound s m), stackSize) (sym (cacheOf-size s e l))
+
+pub stackSize-fast : (s : ℕ) → s % 16 ≡ 0 → 32 ≤ s → s ≡ stackSize (fastAt (fastOf s))
+stackSize-fast s e l =
+    let q : fastAt (fastOf s) - 64 ≡ fastOf s = omega arith in
+    rw (le-ltb (fastAt (fastOf s)) 64 (omega arith), stackSize) (sym (ap (λ (k : ℕ). 32 + 16 * k) q ∙ fastOf-size s e l))
+
+-- ---- past the cache
+pub releasePast-leaves : (h : Heap) (w : List ℕ) (c : ℕ) → Good h → Mem h w → Loose h c
+    → Leaves h w (releasePast c h) (λ a g. Good g × Still Cached h g) (any nil) (one c)
+unfolding releasePast
+releasePast-leaves h w c g m lo = leaves-if (leb (sizeOf h c) mostFast)
+    (λ e.
+    let s = g .shape in
+    let mc : 1 ≤ cnt c (starts h) = omega arith in
+    let le : sizeOf h c ≤ 128 = leb-true (sizeOf h c) mostFast e in
+    let k : ℕ = fastAt (fastOf (sizeOf h c)) in
+    let hk : k < 74 = omega (arith, fastOf-bound (sizeOf h c) le) in
+    leaves-giving 0
+    (push-leaves h w k c hk g m lo (stackSize-fast (sizeOf h c) (size-16 h c s mc) (size-32 h c s mc)) (λ z. le) (λ z. absurd (omega arith)))
+    (λ a x. refl) (λ a n p. (p .0, record { lists = λ i l. p .1 .lists i (omega arith); remainder = p .1 .remainder })))
+    (λ e. leaves-weaken (join-leaves h w c g m lo) (λ a n p. (p .0, record { lists = λ i l. p .1 .lists i tt; remainder = p .1 .remainder })))
+
+-- ---- the whole release
+pub both-true : (a b : Bool) → both a b ≡ true → (a ≡ true) × (b ≡ true)
+both-true true b e = (refl, e)
+both-true false b e = absurd (let z : _≡_ {A = ℕ} 0 1 = cc in omega arith)
+
+pub release-leaves : (h : Heap) (w : List ℕ) (c : ℕ) → Good h → Mem h w → Loose h c → Leaves h w (release c h) (λ a g. Good g) (any nil) (one c)
+unfolding release
+release-leaves h w c g m lo = leaves-if (both (leb (sizeOf h c) mostCached) (ltb (length (cache h (cacheOf (sizeOf h c)))) cacheRoom))
+    (λ e.
+    let s = g .shape in
+    let mc : 1 ≤ cnt c (starts h) = omega arith in
+    let k : ℕ = cacheOf (sizeOf h c) in
+    let b = both-true (leb (sizeOf h c) mostCached) (ltb (length (cache h k)) cacheRoom) e in
+    let le : sizeOf h c ≤ 1040 = leb-true (sizeOf h c) mostCached (b .0) in
+    let sh : length (cache h k) < 7 = ltb-true (length (cache h k)) cacheRoom (b .1) in
+    let k64 : k < 64 = cacheOf-bound (sizeOf h c) le in
+    leaves-giving 0
+    (push-leaves h w k c (omega arith) g m lo (stackSize-cache (sizeOf h c) (size-16 h c s mc) (size-32 h c s mc) le) (λ z. absurd (omega arith)) (λ z. sh))
+    (λ a x. refl) (λ a n p. p .0))
+    (λ e. leaves-weaken (releasePast-leaves h w c g m lo) (λ a n p. p .0))

@@ -1,0 +1,142 @@
+-- No usable word of a block is written: a statement about writes. A link lies in its own chunk, a size word before a chunk's usable words, and a note
+-- at the end of the chunk before. Assumes nothing.
+use mathlib.Core.Path.{_≡_, refl, sym, ap, _∙_, subst}
+use mathlib.Core.List.{List, [], _∷_, _++_, append-assoc}
+use mathlib.Core.Logic.{_⊎_, inl, inr, ⊎-elim}
+use Prim.Native.Nat.{ℕ, _+_, _/_, _%_, _≤_, _<_}
+use native.Mathlib.Omega.{arith}
+use lib.Dec.{eqb}
+use lib.ListN.{getD}
+use lib.Seq.{getD-set-other}
+use Rattle.sizes.specs.Limits.{none64}
+use Rattle.machine.specs.Lists.{hd, lst, pre, post, ind, cnt}
+use Rattle.machine.specs.Count.{eq?, ind-other, cnt-append, cnt-here, cnt-le-all}
+use Rattle.machine.specs.Heap.{Tile, tile, Heap, bin, endFrom, startsFrom, topSize, starts, sizeOf}
+use Rattle.machine.specs.Writes.{Write, who, field, value, put, apply, writes, size, note}
+use Rattle.machine.specs.Primitives.{fwdTo, backTo, linkIn, unlink}
+use Rattle.sound.specs.Relation.{all, fits, Shape, Loose}
+use Rattle.sound.specs.Tiles.{zero-or, fits-split, starts-append, Start, start, starts-once, Place, place}
+use Rattle.sound.specs.Frames.{Starts, starts-all, field-lt, Sub, LinkW, link-append}
+use Rattle.sound.specs.Lists.{cut-cnt, fwd-w, back-w, link-more}
+use Rattle.sound.specs.Edits.{size-at, fits-tiles, size-32, size-16}
+
+-- none of ws writes a usable word of the block x of size s: words x / 8 + 2 to (x + s) / 8
+abbrev pub Spares : ℕ → ℕ → List Write → Type 0
+Spares x s [] = Unit {0}
+Spares x s (e ∷ ws) = ((who e / 8 + field e < x / 8 + 2) ⊎ ((x + s) / 8 < who e / 8 + field e)) × Spares x s ws
+
+pub spared : (x s : ℕ) (ws : List Write) (w : List ℕ) (i : ℕ) → Spares x s ws → x / 8 + 2 ≤ i → i ≤ (x + s) / 8 → getD (apply ws w) i 0 ≡ getD w i 0
+spared x s [] w i k l m = refl
+spared x s (e ∷ ws) w i k l m =
+    spared x s ws (put e w) i (k .1) l m
+    ∙ getD-set-other w (who e / 8 + field e) i (value e) 0 (λ q. ⊎-elim (λ z. omega arith) (λ z. omega arith) (k .0))
+
+pub spares-append : (x s : ℕ) (a b : List Write) → Spares x s a → Spares x s b → Spares x s (a ++ b)
+spares-append x s [] b j k = k
+spares-append x s (e ∷ a) b j k = (j .0, spares-append x s a b (j .1) k)
+
+-- a chunk's start lies before x, is x, or lies after x's end
+pub clear-of : (h : Heap) (x y : ℕ) → Shape h → 1 ≤ cnt x (starts h) → 1 ≤ cnt y (Starts h)
+    → (y + 32 ≤ x) ⊎ ((y ≡ x) ⊎ (x + sizeOf h x ≤ y))
+clear-of h x y s mx my =
+    let P : Place (h .tiles) 0 x = place (h .tiles) 0 x mx in
+    let T : Tile = tile (topSize h) 1 0 in
+    let e : all h ≡ P .a ++ P .t ∷ (P .z ++ T ∷ []) = ap (λ (l : List Tile). l ++ T ∷ []) (P .tiles) ∙ append-assoc (P .a) (P .t ∷ P .z) (T ∷ []) in
+    let f : fits (P .a) × fits (P .t ∷ (P .z ++ T ∷ [])) = fits-split (P .a) (P .t ∷ (P .z ++ T ∷ [])) (subst fits e (s .fit)) in
+    let sz : sizeOf h x ≡ P .t .size = ap (sizeOf h) (P .at) ∙ size-at h (P .a) (P .z) (P .t) (P .tiles) (f .0) in
+    let c : cnt y (Starts h) ≡ cnt y (startsFrom 0 (P .a)) + (ind (eqb y (endFrom 0 (P .a))) + cnt y (startsFrom (endFrom 0 (P .a) + P .t .size) (P .z ++ T ∷ [])))
+    = ap (λ (l : List Tile). cnt y (startsFrom 0 l)) e ∙ starts-append 0 (P .a) (P .t ∷ (P .z ++ T ∷ [])) y in
+    ⊎-elim
+    (λ z. ⊎-elim
+    (λ q. inr (inl q))
+    (λ q.
+    let g : Start (P .z ++ T ∷ []) (endFrom 0 (P .a) + P .t .size) y = start (P .z ++ T ∷ []) (endFrom 0 (P .a) + P .t .size) y (f .1 .3)
+    (omega (arith, c, ind-other y (endFrom 0 (P .a)) (λ r. q (r ∙ sym (P .at))))) in
+    inr (inr (omega (arith, sz, P .at, g .low))))
+    (eq? y x))
+    (λ z. let g : Start (P .a) 0 y = start (P .a) 0 y (f .0) z in inl (omega (arith, P .at, g .high)))
+    (zero-or (cnt y (startsFrom 0 (P .a))))
+
+-- a write of a link of another chunk
+pub spare-links : (h : Heap) (x : ℕ) (L : List ℕ) (ws : List Write) → Shape h → 1 ≤ cnt x (starts h) → Sub L (Starts h) → cnt x L ≡ 0 → LinkW L ws
+    → Spares x (sizeOf h x) ws
+spare-links h x L [] s mx sub out k = tt
+spare-links h x L (e ∷ ws) s mx sub out k =
+    let gy : Start (all h) 0 (who e) = start (all h) 0 (who e) (s .fit) (sub (who e) (k .1)) in
+    let gx : Start (h .tiles) 0 x = start (h .tiles) 0 x (fits-tiles h s) mx in (
+      ⊎-elim
+          (λ z. inl (omega (arith, field-lt e, gy .even, gx .even)))
+          (λ z. ⊎-elim
+          (λ q. absurd (omega (arith, k .1, ap (λ (y : ℕ). cnt y L) q)))
+          (λ q. inr (omega (arith, k .0)))
+          z)
+          (clear-of h x (who e) s mx (sub (who e) (k .1))),
+      spare-links h x L ws s mx sub out (k .2),
+    )
+
+pub unlink-spares : (h : Heap) (j c x : ℕ) → Shape h → Loose h x → 1 ≤ cnt c (bin h j) → Spares x (sizeOf h x) (writes (unlink j c h))
+unlink-spares h j c x s lo mc =
+    let xs : List ℕ = pre c (bin h j) in
+    let ys : List ℕ = post c (bin h j) in
+    let up : (y : ℕ) → cnt y (xs ++ ys) ≡ cnt y xs + cnt y ys = λ y. cnt-append y xs ys in
+    spare-links h x (xs ++ ys) (writes (unlink j c h)) s (omega arith)
+    (λ y i. omega (arith, s .own y, starts-all h y, cut-cnt c (bin h j) mc y, up y, cnt-le-all y (h .bins) j))
+    (omega (arith, lo, once, cut-cnt c (bin h j) mc x, up x, cnt-le-all x (h .bins) j))
+    (link-append (xs ++ ys) (fwdTo xs (hd none64 ys)) (backTo ys (lst none64 xs))
+    (link-more xs (xs ++ ys) (fwdTo xs (hd none64 ys)) (λ y i. omega (arith, up y)) (fwd-w xs (hd none64 ys)))
+    (link-more ys (xs ++ ys) (backTo ys (lst none64 xs)) (λ y i. omega (arith, up y)) (back-w ys (lst none64 xs))))
+  where
+    once : cnt x (starts h) ≤ 1
+    once = starts-once (h .tiles) 0 x (fits-tiles h s)
+
+pub link-spares : (h : Heap) (j c x : ℕ) (xs ys : List ℕ) → Shape h → Loose h x → Loose h c → (x ≡ c → ⊥) → bin h j ≡ xs ++ ys
+    → Spares x (sizeOf h x) (writes (linkIn j c xs ys h))
+link-spares h j c x xs ys s lo lc ne e =
+    let L : List ℕ = c ∷ (xs ++ ys) in
+    let up : (y : ℕ) → cnt y (bin h j) ≡ cnt y xs + cnt y ys = λ y. ap (cnt y) e ∙ cnt-append y xs ys in
+    let up′ : (y : ℕ) → cnt y (xs ++ ys) ≡ cnt y xs + cnt y ys = λ y. cnt-append y xs ys in
+    spare-links h x L (writes (linkIn j c xs ys h)) s (omega arith)
+    (λ y i. ⊎-elim (λ q. rw q (omega (arith, starts-all h c)))
+    (λ q. omega (arith, ind-other y c q, s .own y, starts-all h y, up y, up′ y, cnt-le-all y (h .bins) j)) (eq? y c))
+    (omega (arith, lo, starts-once (h .tiles) 0 x (fits-tiles h s), ind-other x c ne, up x, up′ x, cnt-le-all x (h .bins) j)) (
+      omega arith,
+      cnt-here c (xs ++ ys),
+      (
+        omega arith,
+        cnt-here c (xs ++ ys),
+        link-append L (fwdTo xs c) (backTo ys c)
+            (link-more xs L (fwdTo xs c) (λ y i. omega (arith, up′ y)) (fwd-w xs c))
+            (link-more ys L (backTo ys c) (λ y i. omega (arith, up′ y)) (back-w ys c)),
+      ),
+    )
+
+-- a size word is in no block's usable words
+pub spare-size : (h : Heap) (x c z p : ℕ) → Shape h → Loose h x → 1 ≤ cnt c (Starts h) → Spares x (sizeOf h x) (size c z p ∷ [])
+spare-size h x c z p s lo mc =
+    let gy : Start (all h) 0 c = start (all h) 0 c (s .fit) mc in
+    let gx : Start (h .tiles) 0 x = start (h .tiles) 0 x (fits-tiles h s) (omega arith) in (
+      ⊎-elim (λ q. inl (omega (arith, gy .even, gx .even)))
+          (λ q. ⊎-elim (λ r. inl (omega (arith, r, gx .even))) (λ r. inr (omega (arith, gy .even))) q) (clear-of h x c s (omega arith) mc),
+      tt,
+    )
+
+-- a note at the end of c is in no other block's usable words
+pub spare-note : (h : Heap) (x c z : ℕ) → Shape h → Loose h x → (x ≡ c → ⊥) → 1 ≤ cnt c (starts h) → 1 ≤ cnt (c + sizeOf h c) (Starts h)
+    → Spares x (sizeOf h x) (note (c + sizeOf h c) z ∷ [])
+spare-note h x c z s lo ne mc mn =
+    let n : ℕ = c + sizeOf h c in
+    let mx : 1 ≤ cnt x (starts h) = omega arith in
+    let gn : Start (all h) 0 n = start (all h) 0 n (s .fit) mn in
+    let gx : Start (h .tiles) 0 x = start (h .tiles) 0 x (fits-tiles h s) mx in
+    let gc : Start (h .tiles) 0 c = start (h .tiles) 0 c (fits-tiles h s) mc in
+    let c32 : 32 ≤ sizeOf h c = size-32 h c s mc in
+    let x32 : 32 ≤ sizeOf h x = size-32 h x s mx in
+    let nx : (n ≡ x + sizeOf h x) → ⊥ = λ q. ⊎-elim
+    (λ p. ⊎-elim (λ r. omega arith) (λ r. ⊎-elim (λ v. ne v) (λ v. omega arith) r) (clear-of h c x s mc (omega (arith, starts-all h x))))
+    (λ p. ⊎-elim (λ v. ne (sym v)) (λ v. omega arith) p)
+    (clear-of h x c s mx (omega (arith, starts-all h c))) in
+    let x16 : sizeOf h x % 16 ≡ 0 = size-16 h x s mx in (
+      ⊎-elim (λ q. inl (omega (arith, gn .even, gx .even)))
+          (λ q. ⊎-elim (λ r. inl (omega (arith, r, gx .even))) (λ r. inr (omega (arith, nx, gn .even, gx .even))) q) (clear-of h x n s mx mn),
+      tt,
+    )
