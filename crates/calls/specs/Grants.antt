@@ -1,0 +1,159 @@
+-- A grant that passed its tests: what it answers and leaves is the machine's. Assumes nothing.
+use mathlib.Core.Path.{_≡_, refl, sym, ap, _∙_, subst}
+use mathlib.Core.Bool.{Bool, true, false}
+use mathlib.Core.List.{List}
+use mathlib.Core.Logic.{_⊎_, ⊎-elim}
+use Prim.Native.Nat.{ℕ, _+_, _-_, _%_, _≤_}
+use native.Mathlib.Omega.{arith}
+use lib.Dec.{ltb}
+use lib.ListN.{length}
+use borrow.Author.Tests.{ltb-false}
+use Rattle.le.specs.Number.{bytes}
+use Rattle.le.specs.Arena.{arenaWords}
+use Rattle.le.specs.ArenaLaws.{length-arenaWords}
+use Rattle.sizes.specs.Limits.{mostRequest}
+use Rattle.sizes.specs.Sizes.{need, usable}
+use Rattle.sizes.specs.SizesLaws.{need-bounds, Fitting}
+use Rattle.sizes.specs.Needed.{neededOf}
+use Rattle.sizes.specs.declared.Needed.{Needed}
+use Rattle.sizes.specs.declared.Needed.the-variants as N
+use Rattle.machine.specs.Lists.{cnt}
+use Rattle.machine.specs.Count.{ind-same}
+use Rattle.machine.specs.Heap.{Heap, sizeOf, starts, topOf}
+use Rattle.machine.specs.Writes.{Ran, ran, heapOf}
+use Rattle.machine.specs.Grant.{grant}
+use Rattle.machine.specs.View.{sizeAt}
+use Rattle.machine.specs.Audit.{sound?, auditOf}
+use Rattle.machine.specs.Calls.{after, heapIn, wordsOf, grantCall}
+use Rattle.machine.specs.declared.{Got.Got, Got.the-variants.At, Got.the-variants.Nothing}
+use Rattle.machine.specs.declared.Audited.{Audited}
+use Rattle.machine.specs.declared.Refusal.the-variants as R
+use Rattle.machine.specs.declared.Answer.{Answer}
+use Rattle.machine.specs.declared.Answer.the-variants.{Granted, Refused}
+use Rattle.sound.specs.Relation.{Shape, Mem, Loose, Good, Sound}
+use Rattle.sound.specs.Tiles
+use Rattle.sound.specs.Frames.{Starts, starts-all}
+use Rattle.sound.specs.Edits.{fits-tiles, size-32}
+use Rattle.sound.specs.Spares.{clear-of}
+use Rattle.sound.specs.Moves.{answerOf}
+use Rattle.sound.specs.Keeps.{grant-ends}
+use Rattle.sound.specs.Live.{grant-gives}
+use Rattle.fields.specs.Follow.{Ok, answer, Gave, Does}
+use Rattle.fields.specs.FollowLaws.{gave-ok}
+use Rattle.prims.specs.Chunks.{start-chunk, loose-chunk}
+use Rattle.prims.specs.Sizes.{chunk-says}
+use Rattle.calls.specs.Ways.{Octets, kept, grant-request, grant-unsound, grant-none, grant-at}
+use Rattle.calls.specs.Through.{Came, came-shape, came-sound, told, sound-ok}
+
+-- ---- number 2
+needed-large : (n : ℕ) → neededOf n ≡ N.TooLarge → ltb mostRequest n ≡ true
+unfolding neededOf
+needed-large n e = go (ltb mostRequest n) e
+  where
+    go : (t : Bool) → elim t [ true ↦ N.TooLarge | false ↦ N.Size (need n) ] ≡ N.TooLarge → t ≡ true
+    go true e = refl
+    go false e = absurd (let z : _≡_ {A = ℕ} 0 1 = cc in omega arith)
+
+pub record Sized (n b : ℕ) : Type 0 where
+  pub small : ltb mostRequest n ≡ false
+  pub is : b ≡ need n
+  pub whole : b % 16 ≡ 0
+  pub least : 32 ≤ b
+  pub most : b ≤ 262160
+
+pub needed-size : (n b : ℕ) (x : Needed) → x ≡ neededOf n → x ≡ N.Size b → Sized n b
+unfolding neededOf
+needed-size n b x e f = go (ltb mostRequest n) refl (sym e ∙ f)
+  where
+    go : (t : Bool) → ltb mostRequest n ≡ t → elim t [ true ↦ N.TooLarge | false ↦ N.Size (need n) ] ≡ N.Size b → Sized n b
+    go true l e = absurd (let z : _≡_ {A = ℕ} 0 1 = cc in omega arith)
+    go false l e =
+        let q : need n ≡ b = cc in
+        let i : Fitting n (need n) = need-bounds n in
+        record {
+          small = l;
+          is = sym q;
+          whole = subst (λ (k : ℕ). k % 16 ≡ 0) q (i .whole);
+          least = subst (λ (k : ℕ). 32 ≤ k) q (i .least);
+          most = subst (λ (k : ℕ). k ≤ 262160) q (i .most (ltb-false mostRequest n l));
+        }
+
+pub grant-large : (a r : List ℕ) (n : ℕ) (x : Needed) (q : List ℕ) → Came a r q → x ≡ neededOf n → x ≡ N.TooLarge → after a r (Refused R.Request) ≡ grantCall a r n
+grant-large a r n x q c e f = grant-request a r n (came-shape a r q c) (needed-large n (sym e ∙ f))
+
+pub grant-refused : (a r q : List ℕ) (n b : ℕ) (f : Audited) → Came a r q → Sized n b → f ≡ auditOf (arenaWords a) q → sound? f ≡ false
+    → after a r (Refused R.Unsound) ≡ grantCall a r n
+grant-refused a r q n b f c z e s = grant-unsound a r n (came-shape a r q c) (z .small) (told a r q f c e false s)
+
+-- ---- a chunk as the answer needs it
+pub record Stands (b : List ℕ) (m : ℕ) : Type 0 where
+  pub even : m % 8 ≡ 0
+  pub inside : m + 32 ≤ length b
+  pub small : m + 32 ≤ 262144
+  pub least : 32 ≤ sizeAt (arenaWords b) m
+  pub most : sizeAt (arenaWords b) m ≤ 262144
+
+size-most : (h : Heap) (w : List ℕ) (x : ℕ) → Shape h → Mem h w → 1 ≤ cnt x (starts h) → sizeOf h x ≤ 262144
+size-most h w x s m i =
+    let j : 1 ≤ cnt (topOf h) (Starts h) = omega (arith, starts-all h (topOf h), ind-same (topOf h)) in
+    let u = Tiles.start (h .tiles) 0 x (fits-tiles h s) i in
+    let v = start-chunk h w s m (topOf h) j in
+    ⊎-elim (λ l. absurd (omega (arith, u .high))) (⊎-elim (λ l. absurd (omega (arith, u .high))) (λ l. omega (arith, v .small))) (clear-of h x (topOf h) s i j)
+
+answer-is : {A : Type 0} (s : Ran A) → answerOf s ≡ answer s
+answer-is (ran h ws x) = refl
+
+-- ---- what the steps did
+module _ (a r q b p : List ℕ) (n k : ℕ) (f : Audited) (g : Got) (c : Came a r q) (z : Sized n k) (e : f ≡ auditOf (arenaWords a) q) (s : sound? f ≡ true)
+    (d : Does Got Good (grant k) (arenaWords a) q g (arenaWords b) p) where
+  t : sound? (auditOf (arenaWords a) (wordsOf r)) ≡ true
+  t = told a r q f c e true s
+
+  heard : Sound (heapIn a r) (arenaWords a) (wordsOf r)
+  heard = came-sound a r q c t
+
+  gave : Gave Got (grant k (heapIn a r)) g (arenaWords a) (arenaWords b) p
+  gave = subst (λ (l : List ℕ). Does Got Good (grant k) (arenaWords a) l g (arenaWords b) p) (c .words) d .does (heapIn a r) (sound-ok heard) (heard .good)
+
+  gave-need : Gave Got (grant (need n) (heapIn a r)) g (arenaWords a) (arenaWords b) p
+  gave-need = subst (λ (m : ℕ). Gave Got (grant m (heapIn a r)) g (arenaWords a) (arenaWords b) p) (z .is) gave
+
+  after-ok : Ok (heapOf (grant k (heapIn a r))) (arenaWords b) p
+  after-ok = let w = grant-ends k (z .whole) (z .least) (heapIn a r) (arenaWords a) (heard .good) (heard .mem) in gave-ok (grant k (heapIn a r)) g (w .now .shape) (w .mem) gave
+
+  pub grant-through-none : (v : List ℕ) → g ≡ Nothing → Octets b → v ≡ bytes 4 p → after b v (Refused R.NoRoom) ≡ grantCall a r n
+  grant-through-none v y o l =
+      kept b v p (Refused R.NoRoom) l
+      (grant-none a r b p n (came-shape a r q c) (z .small) t o (subst (λ (x : Got). Gave Got (grant (need n) (heapIn a r)) x (arenaWords a) (arenaWords b) p) y gave-need))
+
+  -- the chunk given stands in the arena, and its size word says its size
+  module _ (m : ℕ) (y : g ≡ At m) where
+    given : Loose (heapOf (grant k (heapIn a r))) m
+    given = grant-gives k (z .whole) (z .least) (heapIn a r) (arenaWords a) (heard .good) (heard .mem) .given m (answer-is (grant k (heapIn a r)) ∙ gave .says ∙ y) .0
+
+    start : 1 ≤ cnt m (starts (heapOf (grant k (heapIn a r))))
+    start = let l : Loose (heapOf (grant k (heapIn a r))) m = given in omega arith
+
+    size : sizeAt (arenaWords b) m ≡ sizeOf (heapOf (grant k (heapIn a r))) m
+    size = chunk-says (heapOf (grant k (heapIn a r))) (after-ok .shape) (arenaWords b) (after-ok .mem) m start .size
+
+    pub grant-stands : Octets b → Stands b m
+    grant-stands o =
+        let h : Heap = heapOf (grant k (heapIn a r)) in
+        let i = loose-chunk h (arenaWords b) (after-ok .shape) (after-ok .mem) m given in
+        let e = size in
+        record {
+          even = omega (arith, i .even);
+          inside = omega (arith, i .inside, length-arenaWords b, o .even);
+          small = i .small;
+          least = omega (arith, e, size-32 h m (after-ok .shape) start);
+          most = omega (arith, e, size-most h (arenaWords b) m (after-ok .shape) (after-ok .mem) start);
+        }
+
+    pub grant-through-at : (v : List ℕ) (x : Answer) → Octets b → v ≡ bytes 4 p → x ≡ Granted (m + 16) (usable (sizeAt (arenaWords b) m)) → after b v x ≡ grantCall a r n
+    grant-through-at v x o l w =
+        ap (after b v) w
+        ∙ kept b v p (Granted (m + 16) (usable (sizeAt (arenaWords b) m))) l
+        (grant-at a r b p n m (usable (sizeAt (arenaWords b) m)) (came-shape a r q c) (z .small) t o
+        (subst (λ (x : Got). Gave Got (grant (need n) (heapIn a r)) x (arenaWords a) (arenaWords b) p) y gave-need)
+        (ap usable size ∙ ap (λ (j : ℕ). usable (sizeOf (heapOf (grant j (heapIn a r))) m)) (z .is)))

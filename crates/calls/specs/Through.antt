@@ -1,0 +1,132 @@
+-- A call that passed its audit: the words are those of the heap that the bytes spell, and what the steps below did with it is what the machine's call does.
+-- Assumes nothing.
+use mathlib.Core.Path.{_≡_, sym, ap, _∙_, subst}
+use mathlib.Core.Bool.{Bool, true, false}
+use mathlib.Core.List.{List}
+use mathlib.Core.Logic.{_⊎_, ⊎-elim}
+use Prim.Native.Nat.{ℕ, _-_, _*_, _^_, _≤_, _<_}
+use native.Mathlib.Omega.{arith}
+use lib.Dec.{eqb, leb}
+use lib.ListN.{length, getD, List·getD-eq-default}
+use borrow.Author.Tests.{ne-eqb, leb-true}
+use Rattle.le.specs.Number.{words, bytes}
+use Rattle.le.specs.Arena.{arenaWords}
+use Rattle.le.specs.NumberLaws.{number-small}
+use Rattle.le.specs.WordsLaws.{length-words, getD-words}
+use Rattle.machine.specs.Heap.{Heap, live?}
+use Rattle.machine.specs.Release.{release, settle}
+use Rattle.machine.specs.Audit.{sound?, auditOf}
+use Rattle.machine.specs.Calls.{after, arenaAllowed?, shape?, wordsOf, heapIn, releaseCall, settleCall}
+use Rattle.machine.specs.declared.Audited.{Audited}
+use Rattle.machine.specs.declared.Audited.the-variants as A
+use Rattle.machine.specs.declared.Refusal.the-variants as R
+use Rattle.machine.specs.declared.Answer.the-variants.{Done, Refused}
+use Rattle.sound.specs.Relation.{Loose, Good, Sound}
+use Rattle.sound.specs.Tiles.{lt-or-le}
+use Rattle.sound.specs.Live.{live-loose}
+use Rattle.sound.specs.Release.{both-true}
+use Rattle.audit.specs.Marks.{ArenaBytes}
+use Rattle.audit.specs.TileTurn.{arena-words}
+use Rattle.audit.specs.Exact.{audit-sound}
+use Rattle.fields.specs.Follow.{Ok, Has, Does}
+use Rattle.calls.specs.Ways.{Octets, kept, allowed-true, shape-true, settle-unsound, settle-done, release-unsound, release-null, release-dead, release-done}
+use Rattle.calls.specs.Looks.{sound-is, liveMem?, lookAt, look-is-unsound, look-is-live, look-is-dead}
+use Rattle.calls.specs.declared.call_release.Look.{Look}
+use Rattle.calls.specs.declared.call_release.Look.the-variants.{Unsound, NotLive, Live}
+
+-- good buffers, and the record's words q
+pub record Came (a r q : List ℕ) : Type 0 where
+  pub long : length r ≡ 1572
+  pub allowed : arenaAllowed? (length a) ≡ true
+  pub small : (i : ℕ) → getD r i 0 < 256
+  pub words : q ≡ wordsOf r
+
+pub came-arena : (a r q : List ℕ) → Came a r q → ArenaBytes a
+came-arena a r q c = let l = allowed-true (length a) (c .allowed) in record { even = l .0; least = l .1; small = l .2 }
+
+pub came-shape : (a r q : List ℕ) → Came a r q → shape? a r ≡ true
+came-shape a r q c = shape-true a r (c .long) (c .allowed)
+
+-- an arena of the same length
+pub octets : (a r q b : List ℕ) → Came a r q → length b ≡ length a → ((i : ℕ) → getD b i 0 < 256) → Octets b
+octets a r q b c e s = let l = allowed-true (length a) (c .allowed) in record { even = omega (arith, l .0); small = s }
+
+words-small : (r : List ℕ) → ((i : ℕ) → getD r i 0 < 256) → (i : ℕ) → getD (wordsOf r) i 0 < 2 ^ 32
+words-small r s i =
+    ⊎-elim
+    (λ l. subst (λ (n : ℕ). n < 2 ^ 32) (sym (getD-words 4 393 r i l)) (number-small 4 r (4 * i) s))
+    (λ l. subst (λ (n : ℕ). n < 2 ^ 32) (sym (List·getD-eq-default (wordsOf r) 0 (omega (arith, length-words 4 393 r)))) (omega arith))
+    (lt-or-le i 393)
+
+pub came-sound : (a r q : List ℕ) → Came a r q → sound? (auditOf (arenaWords a) (wordsOf r)) ≡ true → Sound (heapIn a r) (arenaWords a) (wordsOf r)
+came-sound a r q c e =
+    audit-sound (arenaWords a) (wordsOf r) (arena-words a (came-arena a r q c)) (length-words 4 393 r) (words-small r (c .small)) (sound-is (auditOf (arenaWords a) (wordsOf r)) e)
+
+-- as the code has it: an answer about q
+pub told : (a r q : List ℕ) (f : Audited) → Came a r q → f ≡ auditOf (arenaWords a) q → (t : Bool) → sound? f ≡ t → sound? (auditOf (arenaWords a) (wordsOf r)) ≡ t
+told a r q f c e t s = ap (λ (l : List ℕ). sound? (auditOf (arenaWords a) l)) (sym (c .words)) ∙ ap sound? (sym e) ∙ s
+
+pub sound-ok : {h : Heap} {w r : List ℕ} → Sound h w r → Ok h w r
+sound-ok s = record { shape = s .good .shape; mem = s .mem; rec = s .rec }
+
+pub came-has : (a r q : List ℕ) (f : Audited) → Came a r q → f ≡ auditOf (arenaWords a) q → sound? f ≡ true → Has Good (arenaWords a) q
+came-has a r q f c e s =
+    let k = came-sound a r q c (told a r q f c e true s) in
+    subst (Has Good (arenaWords a)) (sym (c .words)) (record { heap = heapIn a r; ok = sound-ok k; holds = k .good })
+
+-- ---- settle
+pub settle-refused : (a r q : List ℕ) (f : Audited) → Came a r q → f ≡ auditOf (arenaWords a) q → sound? f ≡ false → after a r (Refused R.Unsound) ≡ settleCall a r
+settle-refused a r q f c e s = settle-unsound a r (came-shape a r q c) (told a r q f c e false s)
+
+pub settle-through : (a r q b v p : List ℕ) (f : Audited) → Came a r q → f ≡ auditOf (arenaWords a) q → sound? f ≡ true → Octets b
+    → Does (Unit {0}) Good settle (arenaWords a) q tt (arenaWords b) p → v ≡ bytes 4 p → after b v Done ≡ settleCall a r
+settle-through a r q b v p f c e s o d z =
+    let t = told a r q f c e true s in
+    let k = came-sound a r q c t in
+    kept b v p Done z
+    (settle-done a r b p (came-shape a r q c) t o
+    (subst (λ (l : List ℕ). Does (Unit {0}) Good settle (arenaWords a) l tt (arenaWords b) p) (c .words) d .does (heapIn a r) (sound-ok k) (k .good)))
+
+-- ---- release
+looked : (a r q : List ℕ) (m : ℕ) (l : Look) → Came a r q → l ≡ lookAt (arenaWords a) q m → l ≡ lookAt (arenaWords a) (wordsOf r) m
+looked a r q m l c e = e ∙ ap (λ (p : List ℕ). lookAt (arenaWords a) p m) (c .words)
+
+pub release-refused : (a r q : List ℕ) (m : ℕ) (l : Look) → Came a r q → l ≡ lookAt (arenaWords a) q m → l ≡ Unsound → after a r (Refused R.Unsound) ≡ releaseCall a r m
+release-refused a r q m l c e u = release-unsound a r m (came-shape a r q c) (look-is-unsound (arenaWords a) (wordsOf r) m (sym u ∙ looked a r q m l c e))
+
+pub release-of-null : (a r q : List ℕ) (m : ℕ) (l : Look) → Came a r q → l ≡ lookAt (arenaWords a) q m → l ≡ NotLive → eqb m 0 ≡ true → after a r Done ≡ releaseCall a r m
+release-of-null a r q m l c e u z =
+    release-null a r m (came-shape a r q c) (look-is-dead (arenaWords a) (wordsOf r) m (sym u ∙ looked a r q m l c e) .0) z
+
+pub release-of-dead : (a r q : List ℕ) (m : ℕ) (l : Look) → Came a r q → l ≡ lookAt (arenaWords a) q m → l ≡ NotLive → eqb m 0 ≡ false
+    → after a r (Refused R.NotLive) ≡ releaseCall a r m
+release-of-dead a r q m l c e u z =
+    let d = look-is-dead (arenaWords a) (wordsOf r) m (sym u ∙ looked a r q m l c e) in
+    release-dead a r m (came-shape a r q c) (d .0) z (d .1)
+
+-- a live block: its mem is at least 16, its chunk is loose
+pub record Lives (a r : List ℕ) (m : ℕ) : Type 0 where
+  pub sound : sound? (auditOf (arenaWords a) (wordsOf r)) ≡ true
+  pub live : liveMem? (arenaWords a) (wordsOf r) m ≡ true
+  pub low : 16 ≤ m
+  pub loose : Loose (heapIn a r) (m - 16)
+
+pub lives : (a r q : List ℕ) (m : ℕ) (l : Look) → Came a r q → l ≡ lookAt (arenaWords a) q m → l ≡ Live → Lives a r m
+lives a r q m l c e u =
+    let d = look-is-live (arenaWords a) (wordsOf r) m (sym u ∙ looked a r q m l c e) in
+    let p = both-true (leb 16 m) (live? (heapIn a r) (m - 16)) (d .1) in
+    record { sound = d .0; live = d .1; low = leb-true 16 m (p .0); loose = live-loose (heapIn a r) (m - 16) (p .1) }
+
+pub lives-has : (a r q : List ℕ) (m : ℕ) → Came a r q → Lives a r m → Has (λ h. Good h × Loose h (m - 16)) (arenaWords a) q
+lives-has a r q m c v =
+    let k = came-sound a r q c (v .sound) in
+    subst (Has (λ h. Good h × Loose h (m - 16)) (arenaWords a)) (sym (c .words)) (record { heap = heapIn a r; ok = sound-ok k; holds = (k .good, v .loose) })
+
+pub release-through : (a r q b v p : List ℕ) (m g : ℕ) → Came a r q → Lives a r m → Octets b
+    → Does ℕ (λ h. Good h × Loose h (m - 16)) (release (m - 16)) (arenaWords a) q g (arenaWords b) p → v ≡ bytes 4 p → after b v Done ≡ releaseCall a r m
+release-through a r q b v p m g c i o d z =
+    let k = came-sound a r q c (i .sound) in
+    let n : eqb m 0 ≡ false = ne-eqb m 0 (λ y. omega (arith, i .low)) in
+    kept b v p Done z
+    (release-done a r b p m g (came-shape a r q c) (i .sound) n (i .live) o
+    (subst (λ (l : List ℕ). Does ℕ (λ h. Good h × Loose h (m - 16)) (release (m - 16)) (arenaWords a) l g (arenaWords b) p) (c .words) d .does (heapIn a r) (sound-ok k) (k .good, i .loose)))

@@ -1,0 +1,20 @@
+// Audit: number 1 for a bad shape, else what the heap's audit says.
+ghost use mathlib.Core.Path.{_≡_};
+ghost use Rattle.machine.specs.Calls.{auditCall};
+use crate::shape::allowed;
+use machine::Audited;
+use sizes::RECORD_BYTES;
+
+pub fn audit(arena: &[u8], control: &[u8]) -> Audited
+    ensures { λ x. ⌜ x ≡ auditCall (now (arena .entry)) (now (control .entry)) ⌝ }
+{
+    if control.len() != RECORD_BYTES {
+        return Audited::Shape;
+    }
+    if !allowed(arena.len()) {
+        return Audited::Shape;
+    }
+    let mut r = [0u32; 393];
+    le::read_words(control, &mut r);
+    audit::audit_words(arena, &r)
+}

@@ -1,0 +1,64 @@
+// Grant: numbers 1, 2, 3 before the first write; then the steps; number 5 leaves what they did.
+ghost use mathlib.Core.Path.{_≡_};
+ghost use Prim.Native.Nat.{_+_};
+ghost use Rattle.le.specs.Arena.{arenaWords};
+ghost use Rattle.sizes.specs.Sizes.{usable};
+ghost use Rattle.machine.specs.View.{sizeAt};
+ghost use Rattle.machine.specs.Calls.{after, grantCall};
+ghost use Rattle.calls.specs.Grants.{Stands};
+use crate::shape::allowed;
+use machine::Answer;
+use machine::Got;
+use machine::Refusal;
+use sizes::Chunk;
+use sizes::Needed;
+use sizes::RECORD_BYTES;
+
+// The answer where the chunk c was found: its mem, and its usable bytes as its size word has them after the steps.
+fn granted_at(a: &[u8], c: u32) -> Answer
+    requires { ⌜ Stands (now a) c ⌝ }
+    ensures { λ x. ⌜ x ≡ Answer.Granted (c + 16) (usable (sizeAt (arenaWords (now (a .entry))) c)) ⌝ }
+{
+    let mem = Chunk(c).mem();
+    let m = mem.0;
+    let u = sizes::usable(fields::size_at(a, c as u64));
+    Answer::Granted {
+        mem: m,
+        usable: u as u32,
+    }
+}
+
+pub fn grant(arena: &mut [u8], control: &mut [u8], n: u64) -> Answer
+    ensures { λ x. ⌜ after (now (arena .exit)) (now (control .exit)) x ≡ grantCall (now (arena .entry)) (now (control .entry)) n ⌝ }
+{
+    if control.len() != RECORD_BYTES {
+        return Answer::Refused(Refusal::Shape);
+    }
+    if !allowed(arena.len()) {
+        return Answer::Refused(Refusal::Shape);
+    }
+    let needed = sizes::need(n);
+    match needed {
+        Needed::TooLarge => {
+            return Answer::Refused(Refusal::Request);
+        }
+        Needed::Size(b) => {
+            let mut r = [0u32; 393];
+            le::read_words(control, &mut r);
+            let f = audit::audit_words(arena, &r);
+            if !machine::is_sound(f) {
+                return Answer::Refused(Refusal::Unsound);
+            }
+            let g = grants::grant(arena, &mut r, b);
+            le::write_words(control, &r);
+            match g {
+                Got::Nothing => {
+                    return Answer::Refused(Refusal::NoRoom);
+                }
+                Got::At(c) => {
+                    return granted_at(arena, c);
+                }
+            }
+        }
+    }
+}

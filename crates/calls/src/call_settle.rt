@@ -1,0 +1,27 @@
+// Settle: numbers 1 and 3 before the first write; then emptying and joining.
+ghost use mathlib.Core.Path.{_≡_};
+ghost use Rattle.machine.specs.Calls.{after, settleCall};
+use crate::shape::allowed;
+use machine::Answer;
+use machine::Refusal;
+use sizes::RECORD_BYTES;
+
+pub fn settle(arena: &mut [u8], control: &mut [u8]) -> Answer
+    ensures { λ x. ⌜ after (now (arena .exit)) (now (control .exit)) x ≡ settleCall (now (arena .entry)) (now (control .entry)) ⌝ }
+{
+    if control.len() != RECORD_BYTES {
+        return Answer::Refused(Refusal::Shape);
+    }
+    if !allowed(arena.len()) {
+        return Answer::Refused(Refusal::Shape);
+    }
+    let mut r = [0u32; 393];
+    le::read_words(control, &mut r);
+    let f = audit::audit_words(arena, &r);
+    if !machine::is_sound(f) {
+        return Answer::Refused(Refusal::Unsound);
+    }
+    joins::settle(arena, &mut r);
+    le::write_words(control, &r);
+    Answer::Done
+}

@@ -1,0 +1,23 @@
+-- A chunk that is to be carved: in its bin, and out of it. Definitions only.
+use mathlib.Core.Path.{_≡_}
+use Prim.Native.Nat.{ℕ, _+_, _≤_}
+use Rattle.machine.specs.Lists.{cnt}
+use Rattle.machine.specs.Heap.{Heap, bin, starts, sizeOf}
+use Rattle.sound.specs.Relation.{Loose, Good}
+
+-- c, of size z, is out of its bin: no list has it, and the chunk after it is not the top
+pub record Taken (h : Heap) (c z : ℕ) : Type 0 where
+  pub loose : Loose h c
+  pub size : sizeOf h c ≡ z
+  pub next : 1 ≤ cnt (c + z) (starts h)
+
+-- bin j has c, of at least b bytes
+pub record Fit (h : Heap) (j c b : ℕ) : Type 0 where
+  pub here : 1 ≤ cnt c (bin h j)
+  pub enough : b ≤ sizeOf h c
+
+-- some bin of a sound heap has c, of at least b bytes
+pub record Fitting (h : Heap) (c b : ℕ) : Type 0 where
+  pub good : Good h
+  pub bin-no : ℕ
+  pub fit : Fit h bin-no c b

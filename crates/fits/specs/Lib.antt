@@ -1,0 +1,4 @@
+pub mod Finds
+pub mod Falling
+pub mod Backward
+pub mod Following

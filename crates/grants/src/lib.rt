@@ -1,0 +1,95 @@
+// Grant: document 01's steps in their order, each where those before it found nothing.
+use joins::consolidate;
+use machine::Got;
+use sizes::LARGE;
+use takes::any_fast;
+ghost use mathlib.Core.Path.{_≡_};
+ghost use Prim.Native.Nat.{_%_, _≤_};
+ghost use Rattle.le.specs.Arena.{arenaWords};
+ghost use Rattle.machine.specs.Grant.{step4, pass, again, from4, seek, grant};
+ghost use Rattle.sound.specs.Relation.{Good};
+ghost use Rattle.fields.specs.Follow.{Has, Does};
+
+pub fn step4(a: &mut [u8], r: &mut [u32], b: u64)
+    requires { ⌜ (b % 16 ≡ 0) × (32 ≤ b) × (b ≤ 262160) × Has Good (arenaWords (now a)) (now r) ⌝ }
+    ensures { λ _. ⌜ Does (Unit {0}) Good (step4 b) (arenaWords (now (a .entry))) (now (r .entry)) tt (arenaWords (now (a .exit))) (now (r .exit)) ⌝ }
+{
+    if b < LARGE {
+        return;
+    }
+    if any_fast(r) {
+        consolidate(a, r);
+    }
+}
+
+// Steps 5 to 9 once.
+fn pass(a: &mut [u8], r: &mut [u32], b: u64) -> Got
+    requires { ⌜ (b % 16 ≡ 0) × (32 ≤ b) × (b ≤ 262160) × Has Good (arenaWords (now a)) (now r) ⌝ }
+    ensures { λ g. ⌜ Does Got Good (pass b) (arenaWords (now (a .entry))) (now (r .entry)) g (arenaWords (now (a .exit))) (now (r .exit)) ⌝ }
+{
+    let g5 = sweep::step5(a, r, b);
+    if let Got::At(c) = g5 {
+        return Got::At(c);
+    }
+    let g6 = fits::step6(a, r, b);
+    if let Got::At(c) = g6 {
+        return Got::At(c);
+    }
+    let g7 = fits::step7(a, r, b);
+    if let Got::At(c) = g7 {
+        return Got::At(c);
+    }
+    takes::step9(a, r, b)
+}
+
+// A short top, and fast chunks: consolidate and go to 5.
+fn again(a: &mut [u8], r: &mut [u32], b: u64) -> Got
+    requires { ⌜ (b % 16 ≡ 0) × (32 ≤ b) × (b ≤ 262160) × Has Good (arenaWords (now a)) (now r) ⌝ }
+    ensures { λ g. ⌜ Does Got Good (again b) (arenaWords (now (a .entry))) (now (r .entry)) g (arenaWords (now (a .exit))) (now (r .exit)) ⌝ }
+{
+    if any_fast(r) {
+        consolidate(a, r);
+        return pass(a, r, b);
+    }
+    Got::Nothing
+}
+
+// Steps 4 to 9.
+fn from4(a: &mut [u8], r: &mut [u32], b: u64) -> Got
+    requires { ⌜ (b % 16 ≡ 0) × (32 ≤ b) × (b ≤ 262160) × Has Good (arenaWords (now a)) (now r) ⌝ }
+    ensures { λ g. ⌜ Does Got Good (from4 b) (arenaWords (now (a .entry))) (now (r .entry)) g (arenaWords (now (a .exit))) (now (r .exit)) ⌝ }
+{
+    step4(a, r, b);
+    let g = pass(a, r, b);
+    if let Got::At(c) = g {
+        return Got::At(c);
+    }
+    again(a, r, b)
+}
+
+// Steps 2 to 9.
+pub fn seek(a: &mut [u8], r: &mut [u32], b: u64) -> Got
+    requires { ⌜ (b % 16 ≡ 0) × (32 ≤ b) × (b ≤ 262160) × Has Good (arenaWords (now a)) (now r) ⌝ }
+    ensures { λ g. ⌜ Does Got Good (seek b) (arenaWords (now (a .entry))) (now (r .entry)) g (arenaWords (now (a .exit))) (now (r .exit)) ⌝ }
+{
+    let g2 = takes::step2(a, r, b);
+    if let Got::At(c) = g2 {
+        return Got::At(c);
+    }
+    let g3 = takes::step3(a, r, b);
+    if let Got::At(c) = g3 {
+        return Got::At(c);
+    }
+    from4(a, r, b)
+}
+
+pub fn grant(a: &mut [u8], r: &mut [u32], b: u64) -> Got
+    requires { ⌜ (b % 16 ≡ 0) × (32 ≤ b) × (b ≤ 262160) × Has Good (arenaWords (now a)) (now r) ⌝ }
+    ensures { λ g. ⌜ Does Got Good (grant b) (arenaWords (now (a .entry))) (now (r .entry)) g (arenaWords (now (a .exit))) (now (r .exit)) ⌝ }
+{
+    let g = takes::step1(a, r, b);
+    if let Got::At(c) = g {
+        return Got::At(c);
+    }
+    seek(a, r, b)
+}

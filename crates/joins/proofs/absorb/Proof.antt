@@ -1,0 +1,34 @@
+-- `joins::absorb` meets its contract: c lies in the arena, and the two writes follow the machine's unlink and swallow. Assumes nothing.
+use native.Mathlib.Omega.{arith}
+use borrow.Author.Needs.{needs}
+use Rattle.joins.specs.Reads.{arena-fits}
+use Rattle.joins.specs.Parts.{taking-binned, taking-inside, taking-small, absorb-gave}
+use Rattle.joins.proofs.absorb.Statement.{statement}
+use Rattle.joins.proofs.absorb.Tie as tie
+
+unlink-requires : tie.Need-unlink-requires
+unlink-requires c κs =
+    let s = c .before .before .before .before in
+    record { heap = s .pre .heap; ok = s .pre .ok; holds = taking-binned _ _ _ _ _ _ _ (s .pre .ok) (s .pre .holds) }
+
+set-size-requires : tie.Need-set-size-requires
+set-size-requires c κs =
+    let s = c .before .before .before .before .before .before .before .before .before .before in
+    let k = taking-inside _ _ _ _ _ _ _ (s .pre .ok) (s .pre .holds) _ (arena-fits (s .args .a .now)) in
+    omega (arith, c .before .before .before .before .before .unlink .kept .0, taking-small _ _ _ _ _ _ _ (s .pre .ok) (s .pre .holds))
+
+same-length : tie.Need-same-length
+same-length c = search needs
+
+same-length-2 : tie.Need-same-length-2
+same-length-2 c = search needs
+
+returns : tie.Need-returns
+returns c = record {
+  does = λ h o t. absorb-gave h _ _ _ _ _ _ o t (c .before .before .before .before .before .before .before .before .unlink .ensures)
+      (c .before .before .set-size .ensures);
+}
+
+pub absorb-spec : {M : Type 1} → statement M
+absorb-spec =
+    tie.close (tie.spec unlink-requires set-size-requires same-length same-length-2 returns)

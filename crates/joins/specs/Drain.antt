@@ -1,0 +1,254 @@
+-- A stack is emptied chunk by chunk, and stacks are one after another, as the machine's drain and drains do it: what a turn of each loop comes to.
+-- The fast list's length is read from the words, along its links. Assumes nothing.
+use mathlib.Core.Path.{_≡_, refl, sym, ap, _∙_, subst}
+use mathlib.Core.Bool.{true}
+use mathlib.Core.List.{List, [], _∷_}
+use Prim.Native.Nat.{ℕ, zero, suc, _+_, _-_, _*_, _≤_, _<_}
+use native.Mathlib.Nat.{not-suc-le-zero}
+use native.Mathlib.Omega.{arith}
+use lib.ListN.{length, getD}
+use lib.Seq.{getD-set-same}
+use borrow.Author.Tests.{ne-eqb}
+use Rattle.sizes.specs.Limits.{none32, none64}
+use Rattle.sizes.specs.Layout.{cacheHead, cacheCount, fastHead}
+use Rattle.machine.specs.Lists.{hd, tl, some?, cnt}
+use Rattle.machine.specs.Count.{ind-same, cnt-here, cnt-there, cntAll-set, cnt-le-all, pigeons}
+use Rattle.machine.specs.Heap.{Tile, tile, Heap, stack, fastAt, endFrom, startsFrom, topSize, starts}
+use Rattle.machine.specs.Writes.{Ran, ran, heapOf, writes, does, more, _>>=_}
+use Rattle.machine.specs.Primitives.{pop}
+use Rattle.machine.specs.Release.{join, releasePast, drain, drains, consolidate, emptying}
+use Rattle.machine.specs.View.{up, chunksFrom}
+use Rattle.machine.specs.declared.{Got.Got, Got.the-variants.At}
+use Rattle.sound.specs.Relation.{fits, chain, Mem, Loose, Good}
+use Rattle.sound.specs.Stacks.{pop-ends}
+use Rattle.sound.specs.Tiles.{fits-split}
+use Rattle.sound.specs.Ends.{Ends}
+use Rattle.sound.specs.Moves.{nil, one, any}
+use Rattle.sound.specs.Leaves.{Leaves, Still, Cached}
+use Rattle.sound.specs.Release.{Every, join-leaves, releasePast-leaves}
+use Rattle.sound.specs.Settle.{drain-leaves}
+use Rattle.fields.specs.Follow.{Ok, Has, Gave, Does}
+use Rattle.fields.specs.FollowLaws.{gave-ok}
+use Rattle.prims.specs.Chunks.{Chunks, up-hd}
+use Rattle.prims.specs.Stacks.{ok-stack, ok-cacheHead, ok-cacheCount, ok-fastHead}
+use Rattle.joins.specs.Reach.{Reach, Way, more-nil, then-more, way-here, reach-then, reach-end}
+
+-- ---- a stack has a chunk or none, as its head in the record says
+list-none : (w l : List ℕ) → Chunks w l → hd none32 l ≡ none32 → l ≡ []
+list-none w [] k e = refl
+list-none w (x ∷ l) k e = absurd (omega (arith, k x (cnt-here x l) .small))
+
+list-some : (l : List ℕ) → (hd none32 l ≡ none32 → ⊥) → some? l ≡ true
+list-some [] n = absurd (n refl)
+list-some (x ∷ l) n = refl
+
+-- ---- a fast list's length, by the words
+abbrev pub left : List ℕ → List ℕ → ℕ → ℕ
+left w r k = length (chunksFrom (length w) w (up (getD r (fastHead k) 0)))
+
+chunks-chain : (n : ℕ) (w l : List ℕ) → length l < n → Chunks w l → chain w l → chunksFrom n w (hd none64 l) ≡ l
+chunks-chain zero w l b k c = absurd (not-suc-le-zero b)
+chunks-chain (suc n) w [] b k c = refl
+chunks-chain (suc n) w (x ∷ l) b k c =
+    rw (ne-eqb x none64 (λ e. omega (arith, k x (cnt-here x l) .small)), chunksFrom)
+    (ap (λ (z : List ℕ). x ∷ z) (rw (c .0) (chunks-chain n w l (omega arith) (λ y i. k y (cnt-there y x l i)) (c .1))))
+
+starts-length : (o : ℕ) (ts : List Tile) → fits ts → o + 32 * length (startsFrom o ts) ≤ endFrom o ts
+starts-length o [] f = omega arith
+starts-length o (t ∷ ts) f = omega (arith, starts-length (o + t .size) ts (f .3))
+
+module _ (h : Heap) (w r : List ℕ) (o : Ok h w r) where
+  stack-short : (k : ℕ) → length (stack h k) < length w
+  stack-short k =
+      let s = o .shape in
+      let f : fits (h .tiles) × fits (tile (topSize h) 1 0 ∷ []) = fits-split (h .tiles) (tile (topSize h) 1 0 ∷ []) (s .fit) in
+      omega (
+        arith,
+        pigeons (stack h k) (starts h) (λ x. omega (arith, s .own x, cnt-le-all x (h .stacks) k)),
+        starts-length 0 (h .tiles)
+            (f .0),
+        f .1 .1,
+        o .mem .long,
+      )
+
+  pub left-is : (k : ℕ) → k < 10 → left w r k ≡ length (stack h (fastAt k))
+  left-is k hk =
+      let l : List ℕ = stack h (fastAt k) in
+      ap (λ (c : ℕ). length (chunksFrom (length w) w c)) (ap up (ok-fastHead h w r o k hk) ∙ up-hd w l (ok-stack h w r o (fastAt k)))
+      ∙ ap length (chunks-chain (length w) w l (stack-short (fastAt k)) (ok-stack h w r o (fastAt k)) (o .mem .chains (fastAt k)))
+
+  pub fast-some : (k : ℕ) → k < 10 → (getD r (fastHead k) 0 ≡ none32 → ⊥) → some? (stack h (fastAt k)) ≡ true
+  fast-some k hk n = list-some (stack h (fastAt k)) (λ e. n (ok-fastHead h w r o k hk ∙ e))
+
+  pub fast-none : (k : ℕ) → k < 10 → getD r (fastHead k) 0 ≡ none32 → stack h (fastAt k) ≡ []
+  fast-none k hk e = list-none w (stack h (fastAt k)) (ok-stack h w r o (fastAt k)) (sym (ok-fastHead h w r o k hk) ∙ e)
+
+  pub cache-some : (k : ℕ) → k < 64 → (getD r (cacheHead k) 0 ≡ none32 → ⊥) → some? (stack h k) ≡ true
+  cache-some k hk n = list-some (stack h k) (λ e. n (ok-cacheHead h w r o k hk ∙ e))
+
+  pub cache-none : (k : ℕ) → k < 64 → getD r (cacheHead k) 0 ≡ none32 → stack h k ≡ []
+  cache-none k hk e = list-none w (stack h k) (ok-stack h w r o k) (sym (ok-cacheHead h w r o k hk) ∙ e)
+
+-- ---- the machine's drain, from the stack as it is: f is what is done with each chunk, and leaves the stacks of M as they are
+abbrev pub drainOf : (ℕ → Heap → Ran ℕ) → ℕ → Heap → Ran (Unit {0})
+drainOf f k h = drain f k (stack h k) h
+
+module _ (f : ℕ → Heap → Ran ℕ) (M : ℕ → Type 0)
+    (F : (h : Heap) (w : List ℕ) (c : ℕ) → Good h → Mem h w → Loose h c → Leaves h w (f c h) (λ a g. Good g × Still M h g) (any nil) (one c))
+    (k : ℕ) (hk : k < 74) (mk : M k) where
+  drain-end : (h : Heap) → stack h k ≡ [] → drainOf f k h ≡ ran h [] tt
+  unfolding drain
+  drain-end h e = ap (λ (l : List ℕ). drain f k l h) e
+
+  -- the head c of the stack is taken
+  module _ (h : Heap) (w r : List ℕ) (o : Ok h w r) (g : Good h) (some : some? (stack h k) ≡ true) {c : ℕ} {q : List ℕ}
+      (P : Does Got (λ h. some? (stack h k) ≡ true) (pop k) w r (At c) w q) where
+    abbrev h₁ : Heap
+    h₁ = heapOf (pop k h)
+
+    popped : Ends (pop k h) w Good
+    popped = pop-ends h w k hk g (o .mem)
+
+    pub popped-ok : Ok h₁ w q
+    popped-ok = gave-ok (pop k h) (At c) (popped .now .shape) (popped .mem) (P .does h o some)
+
+    list-is : stack h k ≡ c ∷ tl (stack h k)
+    list-is = go (stack h k) some (P .does h o some .says)
+      where
+        go : (l : List ℕ) → some? l ≡ true → _≡_ {A = Got} (At (hd none64 l)) (At c) → l ≡ c ∷ tl l
+        go [] s e = let z : _≡_ {A = ℕ} 0 1 = cc in absurd (omega arith)
+        go (x ∷ l) s e = let z : x ≡ c = cc in ap (λ (x : ℕ). x ∷ l) z
+
+    loose₁ : Loose h₁ c
+    loose₁ =
+        let s = g .shape in
+        omega (arith, s .own c, ap (cnt c) list-is, ind-same c, cntAll-set c (h .stacks) k (tl (stack h k)) (omega (arith, s .stacked74)))
+
+    pub popped-has : Has (λ h. Good h × Loose h c) w q
+    popped-has = record { heap = h₁; ok = popped-ok; holds = (popped .now, loose₁) }
+
+    left₁ : Leaves h₁ w (f c h₁) (λ a g. Good g × Still M h₁ g) (any nil) (one c)
+    left₁ = F h₁ w c (popped .now) (popped .mem) loose₁
+
+    -- f is done with it: the stack is one shorter
+    shorter : stack (heapOf (f c h₁)) k ≡ tl (stack h k)
+    shorter = left₁ .now .1 .lists k mk ∙ getD-set-same (h .stacks) k (tl (stack h k)) [] (omega (arith, g .shape .stacked74))
+
+    drain-turn : drainOf f k h ≡ (f c h₁ >>= (λ g. drainOf f k g))
+    unfolding drain
+    drain-turn =
+        ap (λ (l : List ℕ). drain f k l h) list-is
+        ∙ sym (more-nil (f c h₁ >>= (λ g. drain f k (tl (stack h k)) g)))
+        ∙ then-more (f c h₁) (λ g. drain f k (tl (stack h k)) g)
+        ∙ ap (λ (l : List ℕ). more (writes (f c h₁)) (drain f k l (heapOf (f c h₁)))) (sym shorter)
+        ∙ sym (then-more (f c h₁) (λ g. drainOf f k g))
+
+    module _ {s : ℕ} {v q′ : List ℕ} (D : Does ℕ (λ h. Good h × Loose h c) (f c) w q s v q′) where
+      done-gave : Gave ℕ (f c h₁) s w v q′
+      done-gave = D .does h₁ popped-ok (popped .now, loose₁)
+
+      -- a heap with one chunk less on the stack has the words and the record then
+      pub record Fewer : Type 0 where
+        pub heap : Heap
+        pub ok : Ok heap v q′
+        pub fewer : length (stack heap k) < length (stack h k)
+
+      pub drain-fewer : Fewer
+      drain-fewer = record {
+        heap = heapOf (f c h₁);
+        ok = gave-ok (f c h₁) s (left₁ .now .0 .shape) (left₁ .mem) done-gave;
+        fewer = omega (arith, ap length shorter, ap length list-is);
+      }
+
+      turn-reach : {o₀ : Ran (Unit {0})} {w₀ : List ℕ} (R : Reach (Unit {0}) o₀ (drainOf f k) w₀ w r) → R .heap ≡ h
+          → Reach (Unit {0}) o₀ (drainOf f k) w₀ v q′
+      turn-reach R e = reach-then R (f c h₁) s (drainOf f k) (ap (drainOf f k) e ∙ drain-turn) done-gave (record { mem = left₁ .mem; now = left₁ .now .0 })
+
+  -- ---- the loop's turn, and its end
+  pub drain-next : {o₀ : Ran (Unit {0})} {w₀ w r : List ℕ} {c s : ℕ} {q v q′ : List ℕ} (R : Reach (Unit {0}) o₀ (drainOf f k) w₀ w r)
+      → some? (stack (R .heap) k) ≡ true
+      → Does Got (λ h. some? (stack h k) ≡ true) (pop k) w r (At c) w q → Does ℕ (λ h. Good h × Loose h c) (f c) w q s v q′ → Reach (Unit {0}) o₀
+      (drainOf f k) w₀ v q′
+  drain-next {o₀} {w₀} {w} {r} R m P D = turn-reach (R .heap) w r (R .ok) (R .good) m P D R refl
+
+  pub drain-done : {o₀ : Ran (Unit {0})} {w₀ w r : List ℕ} (R : Reach (Unit {0}) o₀ (drainOf f k) w₀ w r) → stack (R .heap) k ≡ []
+      → Gave (Unit {0}) o₀ tt w₀ w r
+  drain-done R e = reach-end R tt (drain-end (R .heap) e)
+
+  -- ---- stacks k to k + n - 1, of which k is emptied now
+  pub drains-next : (n : ℕ) {o₀ : Ran (Unit {0})} {w₀ w r v q : List ℕ} → Reach (Unit {0}) o₀ (drains f (suc n) k) w₀ w r
+      → Does (Unit {0}) Good (drainOf f k) w r tt v q
+      → Reach (Unit {0}) o₀ (drains f n (suc k)) w₀ v q
+  unfolding drains
+  drains-next n {o₀} {w₀} {w} R D =
+      let h : Heap = R .heap in
+      let L = drain-leaves f M F k hk mk (stack h k) h w (R .good) (R .ok .mem) refl in
+      reach-then R (drainOf f k h) tt (λ g. drains f n (suc k) g) refl (D .does h (R .ok) (R .good)) (record { mem = L .mem; now = L .now .0 })
+
+pub drains-done : (f : ℕ → Heap → Ran ℕ) (k : ℕ) {o₀ : Ran (Unit {0})} {w₀ w r : List ℕ} → Reach (Unit {0}) o₀ (drains f 0 k) w₀ w r
+    → Gave (Unit {0}) o₀ tt w₀ w r
+unfolding drains
+drains-done f k R = reach-end R tt refl
+
+-- ---- what falls with each turn: a fast list's length by the words, a cache list's count in the record
+pub fast-less : (k : ℕ) → k < 10
+    → {o₀ : Ran (Unit {0})} {w₀ w r : List ℕ} {c s : ℕ} {q v q′ : List ℕ} (R : Reach (Unit {0}) o₀ (drainOf join (fastAt k)) w₀ w r) → some?
+    (stack (R .heap) (fastAt k)) ≡ true
+    → Does Got (λ h. some? (stack h (fastAt k)) ≡ true) (pop (fastAt k)) w r (At c) w q → Does ℕ (λ h. Good h × Loose h c)
+    (join c) w q s v q′ → left v q′ k < left w r k
+fast-less k hk {o₀} {w₀} {w} {r} {c} {s} {q} {v} {q′} R m P D =
+    let L = drain-fewer join Every join-leaves (fastAt k) (omega arith) tt (R .heap) w r (R .ok) (R .good) m P D in
+    omega (arith, left-is (L .heap) v q′ (L .ok) k hk, left-is (R .heap) w r (R .ok) k hk, L .fewer)
+
+pub cache-less : (k : ℕ) → k < 64
+    → {o₀ : Ran (Unit {0})} {w₀ w r : List ℕ} {c s : ℕ} {q v q′ : List ℕ} (R : Reach (Unit {0}) o₀ (drainOf releasePast k) w₀ w r) → some?
+    (stack (R .heap) k) ≡ true
+    → Does Got (λ h. some? (stack h k) ≡ true) (pop k) w r (At c) w q → Does ℕ (λ h. Good h × Loose h c) (releasePast c) w q s v q′
+    → getD q′ (cacheCount k) 0 < getD r (cacheCount k) 0
+cache-less k hk {o₀} {w₀} {w} {r} {c} {s} {q} {v} {q′} R m P D =
+    let L = drain-fewer releasePast Cached releasePast-leaves k (omega arith) hk (R .heap) w r (R .ok) (R .good) m P D in
+    omega (arith, ok-cacheCount (L .heap) v q′ (L .ok) k hk, ok-cacheCount (R .heap) w r (R .ok) k hk, L .fewer)
+
+-- ---- the outer loops: what is left of consolidate and of emptying when k lists are empty
+abbrev pub fromFast : ℕ → Heap → Ran (Unit {0})
+fromFast k = drains join (10 - k) (fastAt k)
+
+abbrev pub fromCache : ℕ → Heap → Ran (Unit {0})
+fromCache k = drains releasePast (64 - k) k
+
+pub consolidate-start : (w r : List ℕ) → Way (Unit {0}) consolidate (fromFast 0) w r w r
+unfolding consolidate
+consolidate-start w r = way-here (drains join 10 64) w r
+
+pub emptying-start : (w r : List ℕ) → Way (Unit {0}) emptying (fromCache 0) w r w r
+unfolding emptying
+emptying-start w r = way-here (drains releasePast 64 0) w r
+
+module _ (k : ℕ) {o₀ : Ran (Unit {0})} {w₀ w r : List ℕ} where
+  pub fast-list : k < 10 → {v q : List ℕ} → Reach (Unit {0}) o₀ (fromFast k) w₀ w r → Does (Unit {0}) Good (drainOf join (fastAt k)) w r tt v q
+      → Reach (Unit {0}) o₀ (fromFast (k + 1)) w₀ v q
+  fast-list hk {v} {q} R D =
+      let n : ℕ = 10 - (k + 1) in
+      let e : 10 - k ≡ suc n = omega arith in
+      let i : suc (fastAt k) ≡ fastAt (k + 1) = omega arith in
+      subst (λ (i : ℕ). Reach (Unit {0}) o₀ (drains join n i) w₀ v q) i
+      (drains-next join Every join-leaves (fastAt k) (omega arith) tt n (subst (λ (m : ℕ). Reach (Unit {0}) o₀ (drains join m (fastAt k)) w₀ w r) e R) D)
+
+  pub cache-list : k < 64 → {v q : List ℕ} → Reach (Unit {0}) o₀ (fromCache k) w₀ w r → Does (Unit {0}) Good (drainOf releasePast k) w r tt v q
+      → Reach (Unit {0}) o₀ (fromCache (k + 1)) w₀ v q
+  cache-list hk {v} {q} R D =
+      let n : ℕ = 64 - (k + 1) in
+      let e : 64 - k ≡ suc n = omega arith in
+      let i : suc k ≡ k + 1 = omega arith in
+      subst (λ (i : ℕ). Reach (Unit {0}) o₀ (drains releasePast n i) w₀ v q) i
+      (drains-next releasePast Cached releasePast-leaves k (omega arith) hk n (subst (λ (m : ℕ). Reach (Unit {0}) o₀ (drains releasePast m k) w₀ w r) e R) D)
+
+  pub fast-end : 10 ≤ k → Reach (Unit {0}) o₀ (fromFast k) w₀ w r → Gave (Unit {0}) o₀ tt w₀ w r
+  fast-end hk R =
+      let e : 10 - k ≡ 0 = omega arith in
+      drains-done join (fastAt k) (subst (λ (m : ℕ). Reach (Unit {0}) o₀ (drains join m (fastAt k)) w₀ w r) e R)
+
+  pub cache-end : 64 ≤ k → Reach (Unit {0}) o₀ (fromCache k) w₀ w r → Gave (Unit {0}) o₀ tt w₀ w r
+  cache-end hk R =
+      let e : 64 - k ≡ 0 = omega arith in
+      drains-done releasePast k (subst (λ (m : ℕ). Reach (Unit {0}) o₀ (drains releasePast m k) w₀ w r) e R)

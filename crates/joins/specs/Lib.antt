@@ -1,0 +1,8 @@
+pub mod Reads
+pub mod States
+pub mod Parts
+pub mod Join
+pub mod Reach
+pub mod Release
+pub mod Drain
+pub mod Settle

@@ -1,0 +1,3 @@
+pub mod Newcomer
+pub mod Turns
+pub mod Loop

@@ -1,0 +1,8 @@
+pub mod Reach
+pub mod Moves
+pub mod Tests
+pub mod Heads
+pub mod Lasts
+pub mod Steps
+pub mod Top
+pub mod AnyFast

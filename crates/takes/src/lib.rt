@@ -1,0 +1,156 @@
+// The steps of grant that take a chunk as it stands, 1 to 3, and the one that takes from the top, 9. And whether some fast list has a chunk.
+use fields::set_size;
+use machine::Got;
+use prims::push_cache;
+use prims::set_p;
+use prims::take_cache;
+use prims::take_fast;
+use prims::unlink;
+use sizes::CACHE_COUNTS;
+use sizes::CACHE_HEADS;
+use sizes::CACHE_ROOM;
+use sizes::FAST_HEADS;
+use sizes::FAST_LISTS;
+use sizes::LARGE;
+use sizes::LENGTH_WORD;
+use sizes::MOST_CACHED;
+use sizes::MOST_FAST;
+use sizes::NONE32;
+use sizes::TOP_WORD;
+ghost use mathlib.Core.Path.{_≡_};
+ghost use mathlib.Core.List.{List};
+ghost use Prim.Native.Nat.{ℕ, _+_, _%_, _≤_, _<_};
+ghost use lib.ListN.{length};
+ghost use Rattle.le.specs.Arena.{arenaWords};
+ghost use Rattle.sizes.specs.Layout.{binLast};
+ghost use Rattle.sizes.specs.Sizes.{binOf};
+ghost use Rattle.machine.specs.Heap.{Heap, anyFast?};
+ghost use Rattle.machine.specs.Grant.{step1, step2, takeLast, step3, step9};
+ghost use Rattle.sound.specs.Relation.{Good};
+ghost use Rattle.fields.specs.Follow.{Ok, Has, Does};
+ghost use Rattle.takes.specs.Moves.{moveHeads, moveRest, Last};
+
+pub fn step1(a: &mut [u8], r: &mut [u32], b: u64) -> Got
+    requires { ⌜ (b % 16 ≡ 0) × (32 ≤ b) × (b ≤ 262160) × Has Good (arenaWords (now a)) (now r) ⌝ }
+    ensures { λ g. ⌜ Does Got Good (step1 b) (arenaWords (now (a .entry))) (now (r .entry)) g (arenaWords (now (a .exit))) (now (r .exit)) ⌝ }
+{
+    if MOST_CACHED < b {
+        return Got::Nothing;
+    }
+    let k = sizes::cache_list(b);
+    if r[CACHE_HEADS + k] == NONE32 {
+        return Got::Nothing;
+    }
+    let c = take_cache(a, r, k);
+    Got::At(c as u32)
+}
+
+// Heads of the fast list of b move to the cache until that has 7 or the list is empty.
+fn move_fast(a: &mut [u8], r: &mut [u32], b: u64)
+    requires { ⌜ (b % 16 ≡ 0) × (32 ≤ b) × (b ≤ 128) × Has Good (arenaWords (now a)) (now r) ⌝ }
+    ensures { λ _. ⌜ Does (Unit {0}) Good (moveHeads b) (arenaWords (now (a .entry))) (now (r .entry)) tt (arenaWords (now (a .exit))) (now (r .exit)) ⌝ }
+{
+    let f = sizes::fast_list(b);
+    let k = sizes::cache_list(b);
+    while r[FAST_HEADS + f] != NONE32 {
+        if CACHE_ROOM <= r[CACHE_COUNTS + k] {
+            return;
+        }
+        let c = take_fast(a, r, f);
+        push_cache(a, r, k, c);
+    }
+}
+
+pub fn step2(a: &mut [u8], r: &mut [u32], b: u64) -> Got
+    requires { ⌜ (b % 16 ≡ 0) × (32 ≤ b) × (b ≤ 262160) × Has Good (arenaWords (now a)) (now r) ⌝ }
+    ensures { λ g. ⌜ Does Got Good (step2 b) (arenaWords (now (a .entry))) (now (r .entry)) g (arenaWords (now (a .exit))) (now (r .exit)) ⌝ }
+{
+    if MOST_FAST < b {
+        return Got::Nothing;
+    }
+    let f = sizes::fast_list(b);
+    if r[FAST_HEADS + f] == NONE32 {
+        return Got::Nothing;
+    }
+    let c = take_fast(a, r, f);
+    move_fast(a, r, b);
+    Got::At(c as u32)
+}
+
+// The record's word that has the last of the bin of b.
+fn last_word(b: u64) -> usize
+    ensures { λ at. ⌜ (at ≡ binLast (binOf b)) × (at ≤ 392) ⌝ }
+{
+    sizes::bin_last(sizes::bin_of(b))
+}
+
+// c, which the small bin of b has, leaves it, and the next chunk's P is set.
+fn take_last(a: &mut [u8], r: &mut [u32], c: u64, b: u64)
+    requires { ⌜ (b % 16 ≡ 0) × (32 ≤ b) × (b < 1024) × Has (λ h. Last h b c) (arenaWords (now a)) (now r) ⌝ }
+    ensures { λ _. ⌜ Does (Unit {0}) (λ h. Last h b c) (takeLast (binOf b) c) (arenaWords (now (a .entry))) (now (r .entry)) tt (arenaWords (now (a .exit))) (now (r .exit)) ⌝ }
+{
+    unlink(a, r, c, b);
+    set_p(a, c + b);
+}
+
+// Lasts of the small bin of b move to the cache until that has 7 or the bin is empty.
+fn move_lasts(a: &mut [u8], r: &mut [u32], b: u64)
+    requires { ⌜ (b % 16 ≡ 0) × (32 ≤ b) × (b < 1024) × Has Good (arenaWords (now a)) (now r) ⌝ }
+    ensures { λ _. ⌜ Does (Unit {0}) Good (moveRest b) (arenaWords (now (a .entry))) (now (r .entry)) tt (arenaWords (now (a .exit))) (now (r .exit)) ⌝ }
+{
+    let at = last_word(b);
+    let list = sizes::cache_list(b);
+    while r[at] != NONE32 {
+        if CACHE_ROOM <= r[CACHE_COUNTS + list] {
+            return;
+        }
+        let c = r[at] as u64;
+        take_last(a, r, c, b);
+        push_cache(a, r, list, c);
+    }
+}
+
+pub fn step3(a: &mut [u8], r: &mut [u32], b: u64) -> Got
+    requires { ⌜ (b % 16 ≡ 0) × (32 ≤ b) × (b ≤ 262160) × Has Good (arenaWords (now a)) (now r) ⌝ }
+    ensures { λ g. ⌜ Does Got Good (step3 b) (arenaWords (now (a .entry))) (now (r .entry)) g (arenaWords (now (a .exit))) (now (r .exit)) ⌝ }
+{
+    if LARGE <= b {
+        return Got::Nothing;
+    }
+    let c = r[last_word(b)];
+    if c == NONE32 {
+        return Got::Nothing;
+    }
+    take_last(a, r, c as u64, b);
+    move_lasts(a, r, b);
+    Got::At(c)
+}
+
+pub fn any_fast(r: &[u32]) -> bool
+    requires { ⌜ length (now r) ≡ 393 ⌝ }
+    ensures { λ t. ⌜ ((h : Heap) (w : List ℕ) → Ok h w (now (r .entry)) → t ≡ anyFast? h) ⌝ }
+{
+    let mut k: usize = 0;
+    while k < FAST_LISTS {
+        if r[FAST_HEADS + k] != NONE32 {
+            return true;
+        }
+        k += 1;
+    }
+    false
+}
+
+pub fn step9(a: &mut [u8], r: &mut [u32], b: u64) -> Got
+    requires { ⌜ (b % 16 ≡ 0) × (32 ≤ b) × (b ≤ 262160) × Has Good (arenaWords (now a)) (now r) ⌝ }
+    ensures { λ g. ⌜ Does Got Good (step9 b) (arenaWords (now (a .entry))) (now (r .entry)) g (arenaWords (now (a .exit))) (now (r .exit)) ⌝ }
+{
+    let top = r[TOP_WORD] as u64;
+    let s = r[LENGTH_WORD] as u64 - top;
+    if s < b + 32 {
+        return Got::Nothing;
+    }
+    set_size(a, top, b, 1);
+    set_size(a, top + b, s - b, 1);
+    r[TOP_WORD] = (top + b) as u32;
+    Got::At(top as u32)
+}

@@ -1,0 +1,229 @@
+/*
+ * heap.h: a heap in one lent block of memory, for C and C++ (libheap.a).
+ *
+ * The heap lives in two buffers that the caller owns: the arena, out of which
+ * blocks are granted, and the record, which says where everything is. The
+ * library itself keeps nothing: no static data, no state between calls, no
+ * memory of its own but the stack. Two heaps are two pairs of buffers.
+ *
+ *     static _Alignas(16) uint8_t arena[49152];
+ *     static uint8_t record[HEAP_RECORD_BYTES];
+ *
+ *     heap_open(arena, sizeof arena, record, sizeof record);
+ *     struct heap_answer a =
+ *         heap_grant(arena, sizeof arena, record, sizeof record, 600);
+ *     if (a.no == HEAP_DONE)
+ *         memset(arena + a.mem, 0, a.usable);
+ *     heap_release(arena, sizeof arena, record, sizeof record, a.mem);
+ *
+ *
+ * MEM
+ *
+ * A block is named by its mem: an offset in bytes from the arena's start, so
+ * its bytes are at arena + mem. Mem 0 (HEAP_NULL) is null and names no block;
+ * the lowest mem is 16. A mem is a multiple of 16. A pointer arena + mem is
+ * therefore aligned to 16 bytes only if the arena is; the library itself asks
+ * no alignment of either buffer.
+ *
+ * The usable bytes of a block are those from mem to mem + usable - 1. There
+ * are at least as many as were asked for, often some more, and the holder may
+ * use them all. Only usable bytes of a block that is held may be written by
+ * the caller; every other byte of the arena, and the whole record, belong to
+ * the library from heap_open on. A block's first contents are whatever its
+ * bytes held before: nothing is cleared.
+ *
+ *
+ * WHAT THE CALLER OWES
+ *
+ *   - arena and record point to arena_len and record_len bytes that may be
+ *     read and written (by heap_audit: read), and neither pointer is null,
+ *     not even with a length of 0;
+ *   - the two buffers do not overlap;
+ *   - during a call nobody else reads or writes either buffer: one call at a
+ *     time on one arena, in one thread, and no interrupt handler that calls
+ *     for the same arena or writes to one of its blocks. Calls on different
+ *     pairs of buffers may run at the same time.
+ *
+ * Nothing else is asked. Any bytes in the two buffers, any lengths and any
+ * numbers are answered, and every call returns.
+ *
+ *
+ * WHAT IS ANSWERED, AND WHAT IS LEFT IN THE BUFFERS
+ *
+ * no is 0 if the call did what it says, else the number of the first line of
+ * this table that applies to the call. mem and usable are 0 in every answer
+ * but that of a grant that was not refused.
+ *
+ *   no  given by                when
+ *    1  every call              arena_len is not a multiple of 16 from 32 to
+ *                               262,144, or record_len is not 1,572; no byte
+ *                               of the buffers is looked at
+ *    2  grant                   n is above 262,144
+ *    3  grant, release, settle  the heap is not sound: heap_audit says where
+ *    4  release                 mem is neither 0 nor a live block's: released
+ *                               already, never granted, not a block's first
+ *                               byte, or outside the arena
+ *    5  grant                   there is no room for n bytes
+ *
+ *   call             no      arena after it            record after it
+ *   open             0       bytes 8 to 15 written     written anew
+ *   open             1       as it was                 if record_len is 1,572:
+ *                                                      closed (below);
+ *                                                      else as it was
+ *   grant            0       changed (below)           changed
+ *   grant            1 to 3  as it was                 as it was
+ *   grant            5       changed (below)           changed
+ *   release          0       changed (below); as it    changed; as it was
+ *                            was for mem 0             for mem 0
+ *   release          1, 3, 4 as it was                 as it was
+ *   settle           0       changed (below)           changed
+ *   settle           1, 3    as it was                 as it was
+ *   audit            any     as it was                 as it was
+ *
+ * "As it was" holds for every single byte. A call that changes the arena
+ * writes headers, links and free memory only: no usable byte of a block that
+ * is live before and after the call changes, whatever the call and whatever
+ * its answer. Bytes 0 to 7 of the arena are never written.
+ *
+ * A grant refused with 5 has already sorted free chunks into their bins and
+ * joined those of the fast lists, and leaves that done. The cache lists, the
+ * last remainder and the live blocks are as they were.
+ *
+ * A closed record says: length 0, every count 0, every other word all ones. On
+ * an arena of an allowed length every later call but open and audit then
+ * answers 3.
+ *
+ *
+ * THE RECORD
+ *
+ * 1,572 bytes, which are 393 little-endian 32-bit words: arena length, top,
+ * last remainder, 64 cache heads, 64 cache counts, 10 fast heads, then first
+ * and last chunk of bins 1 to 126. All ones mean none. Together with the
+ * arena's bytes they are the heap: both may be stored, and moved to any other
+ * address, and used there. A copy of one without the other is of no use.
+ *
+ *
+ * SOUND AND NOT SOUND
+ *
+ * Every call but open first checks the whole heap and refuses it, before the
+ * first write, if it is not sound; so a stray write is found by the next call
+ * and makes no further harm. A heap that is not sound stays so until it is
+ * opened again. A heap that was opened, and whose holders write in their
+ * usable bytes only, is always sound. There is one limit: an overrun or stray
+ * write that happens to leave a sound heap cannot be told from a sound heap.
+ *
+ *
+ * COST
+ *
+ * The check walks over all chunks, so a call takes time in proportion to
+ * their number and to the arena's length. A call of grant, release, settle or
+ * audit needs at most XXXX bytes of stack, whatever the buffers hold: 16,384
+ * of them are marks, one for each 16 bytes of the largest arena, and 1,572 are
+ * the record's words. heap_open needs no marks. No call is recursive, none
+ * takes memory from elsewhere, and none calls back.
+ *
+ * libheap.a is x86-64 code by the System V calling convention.
+ */
+#ifndef HEAP_H
+#define HEAP_H
+
+#include <stddef.h>
+#include <stdint.h>
+
+#ifdef __cplusplus
+extern "C" {
+#endif
+
+/* The record's size in bytes; no other is accepted. */
+#define HEAP_RECORD_BYTES 1572
+
+/* Allowed arena lengths: multiples of the step from the least to the most. */
+#define HEAP_ARENA_MIN 32
+#define HEAP_ARENA_MAX 262144
+#define HEAP_ARENA_STEP 16
+
+/* The largest n that is not refused with 2. */
+#define HEAP_REQUEST_MAX 262144
+
+/* The mem that names no block. */
+#define HEAP_NULL 0
+
+/* The numbers in heap_answer.no and heap_fault.no. */
+enum heap_no {
+    HEAP_DONE = 0,
+    HEAP_BAD_SHAPE = 1,
+    HEAP_TOO_LARGE = 2,
+    HEAP_NOT_SOUND = 3,
+    HEAP_NOT_LIVE = 4,
+    HEAP_NO_ROOM = 5
+};
+
+struct heap_answer {
+    uint32_t no;     /* 0, or the refusal's number */
+    uint32_t mem;    /* a grant's block, else 0 */
+    uint32_t usable; /* the number of its usable bytes, else 0 */
+};
+
+/* The numbers in heap_fault.kind, and what heap_fault.number then is. */
+enum heap_kind {
+    HEAP_SOUND = 0,        /* 0 */
+    HEAP_FAULT_RECORD = 1, /* 0: the record's length is not the arena's */
+    HEAP_FAULT_TILE = 2,   /* offset of a chunk with a wrong size word, or of
+                              the last chunk if it is not the record's top */
+    HEAP_FAULT_CACHE = 3,  /* the cache list, 0 to 63 */
+    HEAP_FAULT_FAST = 4,   /* the fast list, 0 to 9 */
+    HEAP_FAULT_BIN = 5,    /* the bin, 1 to 126 */
+    HEAP_FAULT_FLAG = 6    /* offset of a chunk that says something wrong of
+                              the one before, or is free beside a free one */
+};
+
+struct heap_fault {
+    uint32_t no;     /* 0, or 1 (HEAP_BAD_SHAPE); then kind and number are 0 */
+    uint32_t kind;   /* HEAP_SOUND, or the kind of the first fault */
+    uint32_t number; /* where it is: an offset in the arena, or a list */
+};
+
+/*
+ * Makes a heap without blocks of the two buffers, whatever they hold. On a
+ * heap in use it forgets all blocks. Refused with 1.
+ */
+struct heap_answer heap_open(uint8_t *arena, size_t arena_len,
+                             uint8_t *record, size_t record_len);
+
+/*
+ * Grants a block of at least n usable bytes; n may be 0. The block was not
+ * live before, and overlaps no other. Refused with 1, 2, 3 or 5.
+ */
+struct heap_answer heap_grant(uint8_t *arena, size_t arena_len,
+                              uint8_t *record, size_t record_len, uint64_t n);
+
+/*
+ * Takes a block back. Mem 0 does nothing and is answered with 0 on a sound
+ * heap. Refused with 1, 3 or 4.
+ */
+struct heap_answer heap_release(uint8_t *arena, size_t arena_len,
+                                uint8_t *record, size_t record_len,
+                                uint64_t mem);
+
+/*
+ * Joins all free memory. Released blocks are kept apart for a while, ready
+ * for the next grant of their size; after a settle each stretch between held
+ * blocks is one free chunk, and with no block held the heap answers every
+ * later call as if newly opened. Refused with 1 or 3.
+ */
+struct heap_answer heap_settle(uint8_t *arena, size_t arena_len,
+                               uint8_t *record, size_t record_len);
+
+/*
+ * Says whether the heap is sound, or names its first fault, in the order:
+ * record, chunks from offset 0, cache lists, fast lists, bins, flags from
+ * offset 0. Writes nothing. Answers 1 in no for a bad shape.
+ */
+struct heap_fault heap_audit(const uint8_t *arena, size_t arena_len,
+                             const uint8_t *record, size_t record_len);
+
+#ifdef __cplusplus
+}
+#endif
+
+#endif

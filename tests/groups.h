@@ -1,0 +1,42 @@
+/*
+ * The groups of checks that archive.c runs.
+ */
+#ifndef GROUPS_H
+#define GROUPS_H
+
+#include <stddef.h>
+#include <stdint.h>
+
+#include "pair.h"
+
+/* figures.c */
+void worked_example(void);
+void traces(void);
+void requests(void);
+void bins(void);
+void eight_chunks(void);
+void arenas(void);
+
+/* shapes.c */
+void extreme_numbers(void);
+void bad_shapes(void);
+void refused_shape(struct random *r, enum call call, size_t length,
+                   size_t record_len);
+void lengths_past_32_bits(void);
+void closed_heaps(void);
+
+/* heaps.c; a harm makes the archive's heap of a pair */
+typedef void harm(struct pair *);
+harm harm_field, harm_high, harm_bytes, harm_all;
+void sequences(const char *name, uint32_t from, uint32_t to, uint32_t rounds,
+               uint32_t calls);
+void in_turn(uint32_t rounds);
+void equal_sizes(uint32_t rounds);
+void sound_heaps(const char *name, uint32_t most, uint32_t rounds);
+void harmed_heaps(const char *name, harm *do_harm, uint64_t seeds,
+                  uint32_t most, uint32_t rounds);
+void flawed_heaps(uint32_t rounds);
+void overruns(uint32_t rounds);
+void guards(uint32_t rounds);
+
+#endif

@@ -1,0 +1,397 @@
+/*
+ * Random calls from opened arenas, and calls on heaps that no sequence of
+ * calls made: random sound ones, ones that break a rule, damaged ones. The
+ * last group runs both kinds between guards.
+ */
+#define _DEFAULT_SOURCE
+#include "groups.h"
+
+#include <stdio.h>
+#include <stdlib.h>
+#include <string.h>
+#include <sys/mman.h>
+#include <unistd.h>
+
+#include "holders.h"
+#include "plain.h"
+
+static struct plain_view view;
+
+void sequences(const char *name, uint32_t from, uint32_t to,
+               uint32_t rounds, uint32_t calls)
+{
+    uint64_t before = tally.calls;
+
+    group(name);
+    for (uint64_t i = 1; i <= rounds && !group_failed(); i++) {
+        uint64_t seed = ((uint64_t)to << 32) + i;
+        struct random r = { seed };
+        uint32_t length = from == to ? to : random_length(&r, to);
+        struct pair p = pair_new(seed, r, length < from ? from : length);
+        open_pair(&p);
+        struct model m = model_of(p);
+        random_calls(&m, calls);
+        model_free(&m);
+    }
+    remark(", %llu calls", (unsigned long long)(tally.calls - before));
+}
+
+/* Two heaps, call by call in turn: nothing is kept between calls. */
+void in_turn(uint32_t rounds)
+{
+    group("calls on two heaps in turn");
+    for (uint64_t i = 1; i <= rounds && !group_failed(); i++) {
+        struct model a = model_of(opened(2 * i + 70000, 4096));
+        struct model b = model_of(opened(2 * i + 70001, 512 + 16 * i));
+        while (a.p.calls < 300 && !group_failed()) {
+            random_call(&a);
+            random_call(&b);
+        }
+        model_free(&a);
+        model_free(&b);
+    }
+}
+
+/* Chunks of one size, or of one large bin, side by side in every list. */
+static void equals(struct model *m)
+{
+    struct random *r = &m->p.r;
+    uint32_t n = random_chance(r, 50) ? 121 + random_below(r, 880)
+                                      : 1001 + random_below(r, 1200);
+    uint32_t spread = random_chance(r, 50) ? 1 : 4;
+    uint32_t mem[20], count = 13 + random_below(r, 8);
+
+    for (uint32_t i = 0; i < count && !group_failed(); i++) {
+        mem[i] = model_grant(m, n + 16 * random_below(r, spread));
+        model_grant(m, 24);
+    }
+    for (uint32_t i = count; i > 0 && !group_failed(); i--) {
+        uint32_t drawn = random_below(r, i);
+        model_release(m, mem[drawn]);
+        mem[drawn] = mem[i - 1];
+    }
+    for (uint32_t i = 0; i < 7 && n <= 1032 && !group_failed(); i++)
+        model_grant(m, n);
+    if (random_chance(r, 60) && !group_failed())
+        model_grant(m, 4000 + random_below(r, 60000));
+    for (uint32_t i = 0; i < 14 && !group_failed(); i++)
+        model_grant(m, n + 16 * random_below(r, spread));
+}
+
+/* The last remainder grows by a join while an equal of the request waits. */
+static void remainder_that_grows(struct model *m)
+{
+    struct random *r = &m->p.r;
+    uint32_t n = 121 + random_below(r, 400), mem[8];
+
+    for (uint32_t i = 0; i < 8; i++)
+        mem[i] = model_grant(m, n);
+    model_grant(m, 24);
+    uint32_t split = model_grant(m, 1500 + random_below(r, 500));
+    uint32_t behind = model_grant(m, 1100 + random_below(r, 500));
+    model_grant(m, 24);
+    model_release(m, split);
+    for (uint32_t i = 0; i < 7 && !group_failed(); i++)
+        model_release(m, mem[i]);
+    model_grant(m, 540 + random_below(r, 200));
+    model_release(m, mem[7]);
+    model_release(m, behind);
+    for (uint32_t i = 0; i < 8 && !group_failed(); i++)
+        model_grant(m, n);
+}
+
+void equal_sizes(uint32_t rounds)
+{
+    uint64_t before = tally.calls;
+
+    group("many chunks of equal and of nearly equal sizes");
+    for (uint64_t i = 1; i <= rounds && !group_failed(); i++) {
+        struct model m = model_of(opened(80000 + i, 24576 + 16 * i % 32768));
+        for (unsigned k = 0; k < 3 && !group_failed(); k++) {
+            if (random_chance(&m.p.r, 75))
+                equals(&m);
+            else
+                remainder_that_grows(&m);
+            for (unsigned c = 0; c < 5 && !group_failed(); c++)
+                random_call(&m);
+        }
+        model_free(&m);
+    }
+    remark(", %llu calls", (unsigned long long)(tally.calls - before));
+}
+
+/* ---- heaps that no sequence of calls made ---- */
+
+static void hold_the_live(struct model *m)
+{
+    const struct lent *l = &m->p.ours;
+    plain_read(&view, l->arena, (uint32_t)l->length, l->record);
+    for (uint32_t i = 0; i < view.tiles; i++)
+        if (view.tile[i].state == PLAIN_LIVE)
+            hold(m, view.tile[i].at + 16, view.tile[i].size - 8);
+    for (unsigned i = 0; i < RECENT && view.tiles > 0; i++)
+        m->recent[i] =
+            view.tile[random_below(&m->p.r, view.tiles)].at + 16;
+}
+
+void sound_heaps(const char *name, uint32_t most, uint32_t rounds)
+{
+    uint64_t before = tally.calls;
+
+    group(name);
+    for (uint64_t i = 1; i <= rounds && !group_failed(); i++) {
+        uint64_t seed = ((uint64_t)most << 24) + i;
+        struct random r = { seed };
+        struct pair p = pair_new(seed, r, random_length(&r, most));
+        random_heap(&p.r, p.ours.arena, (uint32_t)p.ours.length,
+                    p.ours.record);
+        same_start(&p);
+        CHECK(is_sound(&p.ours), "seed %llu: a sound heap fails the audit",
+              (unsigned long long)seed);
+        if (group_failed())
+            break;
+        struct model m = model_of(p);
+        hold_the_live(&m);
+        if (i % 8 == 0)
+            grants_in_a_row(&m);
+        uint32_t calls = m.p.calls + 1 + random_below(&m.p.r, 6);
+        while (m.p.calls < calls && !group_failed())
+            random_call(&m);
+        if (!group_failed() && i % 4 == 0)
+            model_settle(&m);
+        model_free(&m);
+    }
+    remark(", %llu calls", (unsigned long long)(tally.calls - before));
+}
+
+/* Calls on a heap that may or may not be sound. */
+static void calls_on_any(struct pair *p, uint32_t calls)
+{
+    for (uint32_t i = 0; i < calls && !group_failed(); i++) {
+        bool sound = both_audits(p).kind == SECOND_SOUND;
+        uint32_t drawn = random_below(&p->r, 10);
+        uint32_t near = random_below(&p->r, (uint32_t)p->ours.length);
+        enum call call = drawn < 4 ? GRANT : drawn < 8 ? RELEASE : SETTLE;
+        uint32_t any = random_below(&p->r, EXTREMES);
+        uint64_t number = drawn % 4 == 0 ? extreme(any)
+            : drawn % 4 == 1             ? near & ~15u
+            : drawn % 4 == 2             ? random_below(&p->r, 1100)
+                                         : 0;
+        if (sound)
+            both(p, call, number);
+        else
+            refused(p, call, number,
+                    call == GRANT && number > 262144 ? 2 : 3);
+    }
+}
+
+void harm_field(struct pair *p)
+{
+    random_heap(&p->r, p->ours.arena, (uint32_t)p->ours.length,
+                p->ours.record);
+    damage_field(&p->r, p->ours.arena, (uint32_t)p->ours.length,
+                 p->ours.record);
+}
+
+void harm_bytes(struct pair *p)
+{
+    random_heap(&p->r, p->ours.arena, (uint32_t)p->ours.length,
+                p->ours.record);
+    damage_bytes(&p->r, p->ours.arena, (uint32_t)p->ours.length,
+                 p->ours.record);
+}
+
+/* A field that is right when it is cut to 32 bits, and only then. */
+void harm_high(struct pair *p)
+{
+    uint8_t *arena = p->ours.arena;
+    random_heap(&p->r, arena, (uint32_t)p->ours.length, p->ours.record);
+    plain_read(&view, arena, (uint32_t)p->ours.length, p->ours.record);
+    uint32_t i = random_below(&p->r, view.tiles);
+    while (i > 0 && view.tile[i].p && view.tile[i].state == PLAIN_LIVE)
+        i--;
+    const struct plain_tile *t = &view.tile[i];
+    bool is_listed = t->state != PLAIN_LIVE && t->state != PLAIN_TOP;
+    uint32_t field = !t->p ? 0
+        : t->state == PLAIN_BINNED && random_chance(&p->r, 50) ? 24
+        : is_listed && random_chance(&p->r, 80)                ? 16
+                                                               : 8;
+    uint64_t bit = (uint64_t)1 << (32 + random_below(&p->r, 32));
+    plain_put(arena + t->at + field, 8,
+              plain_get(arena + t->at + field, 8) ^ bit);
+}
+
+/* Bytes that are no heap, but for what an audit looks at first. */
+void harm_all(struct pair *p)
+{
+    random_bytes(&p->r, p->ours.arena, p->ours.length);
+    random_bytes(&p->r, p->ours.record, p->ours.record_len);
+    if (random_chance(&p->r, 90))
+        plain_put_word(p->ours.record, 0, (uint32_t)p->ours.length);
+    for (size_t at = 0; at < p->ours.length; at += 32)
+        plain_put(p->ours.arena + at + 8, 8, 33);
+    if (random_chance(&p->r, 50))
+        plain_put_word(p->ours.record, 1, (uint32_t)p->ours.length - 32);
+    for (unsigned word = 3; word < 393; word++)
+        if (random_chance(&p->r, 98))
+            plain_put_word(p->ours.record, word,
+                           word >= 67 && word < 131 ? 0 : PLAIN_NONE32);
+}
+
+void harmed_heaps(const char *name, harm *do_harm, uint64_t seeds,
+                  uint32_t most, uint32_t rounds)
+{
+    uint64_t before = tally.calls, kinds[7];
+
+    group(name);
+    memcpy(kinds, tally.faults, sizeof kinds);
+    for (uint64_t i = 1; i <= rounds && !group_failed(); i++) {
+        struct random r = { seeds + i };
+        uint32_t length = random_chance(&r, 40)
+            ? 4096 + 16 * random_below(&r, 512) : random_length(&r, most);
+        struct pair p = pair_new(seeds + i, r, length);
+        do_harm(&p);
+        same_start(&p);
+        calls_on_any(&p, 1 + random_below(&p.r, 3));
+        pair_free(&p);
+    }
+    remark(", %llu calls; faults", (unsigned long long)(tally.calls - before));
+    for (unsigned k = 1; k < 7; k++)
+        remark(" %llu", (unsigned long long)(tally.faults[k] - kinds[k]));
+}
+
+/* Long enough for lists of several chunks, also in the large bins. */
+static struct pair flawed(uint64_t seed, enum flaw flaw)
+{
+    struct random r = { seed };
+    uint32_t length = 8192 + 16 * random_below(&r, 2048);
+    struct pair p = pair_new(seed, r, length);
+    flawed_heap(&p.r, flaw, p.ours.arena, length, p.ours.record);
+    same_start(&p);
+    return p;
+}
+
+void flawed_heaps(uint32_t rounds)
+{
+    /* The rules that a drawn heap seldom breaks are drawn more often. */
+    static const enum flaw drawn[] = { FLAW_ORDER, FLAW_EIGHT, FLAW_ORDER,
+                                       FLAW_EIGHT, FLAW_ORDER, FLAW_TOP,
+                                       FLAW_HOME,  FLAW_NEIGHBOURS };
+    uint64_t before = tally.calls, unsound[FLAW_COUNT] = { 0 };
+
+    group("heaps that break one rule throughout");
+    for (uint64_t i = 1; i <= rounds && !group_failed(); i++) {
+        enum flaw flaw = drawn[i % 8];
+        struct pair p = flawed((1 << 20) + i, flaw);
+        unsound[flaw] += both_audits(&p).kind != SECOND_SOUND;
+        calls_on_any(&p, 1 + random_below(&p.r, 3));
+        pair_free(&p);
+    }
+    remark(", %llu calls; found, rule by rule:",
+           (unsigned long long)(tally.calls - before));
+    for (unsigned flaw = 1; flaw < FLAW_COUNT; flaw++) {
+        remark(" %llu", (unsigned long long)unsound[flaw]);
+        CHECK(unsound[flaw] >= 10, "rule %u was broken %llu times only", flaw,
+              (unsigned long long)unsound[flaw]);
+    }
+}
+
+/* Holders that overrun their blocks; by chance the heap stays sound. */
+void overruns(uint32_t rounds)
+{
+    uint64_t still_sound = 0;
+
+    group("overruns after random calls");
+    for (uint64_t i = 1; i <= rounds && !group_failed(); i++) {
+        uint64_t seed = 90000 + i;
+        struct random r = { seed };
+        struct pair p = pair_new(seed, r, 256 + 16 * random_below(&r, 500));
+        open_pair(&p);
+        struct model m = model_of(p);
+        while (m.p.calls < 20 && !group_failed())
+            random_call(&m);
+        uint32_t length = (uint32_t)m.p.ours.length;
+        uint32_t from = m.blocks == 0 ? 16 + random_below(&m.p.r, length - 16)
+            : m.block[0].mem + m.block[0].usable;
+        uint32_t bytes = 1 + random_below(&m.p.r, 24);
+        put_both(&m.p, from, bytes < length - from ? bytes : length - from);
+        still_sound += both_audits(&m.p).kind == SECOND_SOUND;
+        calls_on_any(&m.p, 1 + random_below(&m.p.r, 3));
+        model_free(&m);
+    }
+    remark(", %llu heaps stayed sound", (unsigned long long)still_sound);
+}
+
+/* ---- nothing outside the buffers ---- */
+
+/* Pages nobody may touch on both sides, and the byte 0xa5 up to them. */
+struct guarded {
+    uint8_t *map;
+    size_t size, length, page;
+    uint8_t *bytes;
+};
+
+static struct guarded guard(size_t length, size_t slack)
+{
+    struct guarded g = { .length = length,
+                         .page = (size_t)sysconf(_SC_PAGESIZE) };
+    size_t inner = (length + slack + g.page - 1) / g.page * g.page;
+
+    g.size = inner + 2 * g.page;
+    g.map = mmap(NULL, g.size, PROT_READ | PROT_WRITE,
+                 MAP_PRIVATE | MAP_ANONYMOUS, -1, 0);
+    if (g.map == MAP_FAILED || mprotect(g.map, g.page, PROT_NONE) != 0
+        || mprotect(g.map + g.size - g.page, g.page, PROT_NONE) != 0) {
+        fputs("tests/archive: the system lends no guarded pages\n", stderr);
+        exit(2);
+    }
+    memset(g.map + g.page, 0xa5, inner);
+    g.bytes = g.map + g.page + inner - slack - length;
+    return g;
+}
+
+static bool guard_kept(const struct guarded *g)
+{
+    const uint8_t *end = g->map + g->size - g->page;
+    for (const uint8_t *at = g->map + g->page; at < end; at++)
+        if ((at < g->bytes || at >= g->bytes + g->length) && *at != 0xa5)
+            return false;
+    return true;
+}
+
+/* Also shows that neither buffer needs any alignment. */
+void guards(uint32_t rounds)
+{
+    group("no byte outside the buffers is touched, at any alignment");
+    for (uint64_t i = 1; i <= rounds && !group_failed(); i++) {
+        uint64_t seed = 60000 + i;
+        struct random r = { seed };
+        uint32_t length = i % 8 == 0 ? 4096 * (uint32_t)(1 + i % 5)
+                                     : random_length(&r, 16384);
+        struct pair p = pair_new(seed, r, length);
+        struct guarded arena = guard(length, i % 3 == 0 ? 0 : i % 17);
+        struct guarded record = guard(1572, i % 2 == 0 ? 0 : i % 13);
+        struct lent own = p.ours;
+        p.ours.arena = arena.bytes;
+        p.ours.record = record.bytes;
+        if (i % 4 == 0) {
+            open_pair(&p);
+            struct model m = model_of(p);
+            while (m.p.calls < 60 && !group_failed())
+                random_call(&m);
+            free(m.block);
+            free(m.usable_at);
+        } else {
+            (i % 4 == 1 ? harm_field : i % 4 == 2 ? harm_bytes : harm_all)(&p);
+            same_start(&p);
+            calls_on_any(&p, 3);
+        }
+        CHECK(guard_kept(&arena) && guard_kept(&record),
+              "seed %llu: a byte outside a buffer was written",
+              (unsigned long long)seed);
+        munmap(arena.map, arena.size);
+        munmap(record.map, record.size);
+        p.ours = own;
+        pair_free(&p);
+    }
+}

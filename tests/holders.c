@@ -1,0 +1,329 @@
+#include "holders.h"
+
+#include <stdlib.h>
+#include <string.h>
+
+#include "plain.h"
+
+static struct plain_view view;
+
+/* ---- holders ---- */
+
+struct model model_of(struct pair p)
+{
+    struct model m = { .p = p };
+    uint32_t length = (uint32_t)p.ours.length;
+    size_t bytes = (length / 16 + 1) * sizeof *m.usable_at;
+
+    m.block = memory((length / 32 + 1) * sizeof *m.block);
+    m.usable_at = memory(bytes);
+    memset(m.usable_at, 0, bytes);
+    for (unsigned i = 0; i < 4; i++)
+        m.palette[i] = random_below(
+            &m.p.r, i < 2 ? 120 : length < 16384 ? 40 + length / 8 : 2000);
+    m.grant_percent = 40 + random_below(&m.p.r, 25);
+    return m;
+}
+
+void model_free(struct model *m)
+{
+    pair_free(&m->p);
+    free(m->block);
+    free(m->usable_at);
+}
+
+void hold(struct model *m, uint32_t mem, uint32_t usable)
+{
+    uint32_t length = (uint32_t)m->p.ours.length;
+    if (!CHECK(mem >= 16 && mem % 16 == 0 && usable < length
+                   && mem <= length - usable && m->usable_at[mem / 16] == 0,
+               "seed %llu, call %u: a block at %u with %u usable bytes",
+               (unsigned long long)m->p.seed, m->p.calls, mem, usable))
+        return;
+    m->usable_at[mem / 16] = usable;
+    m->block[m->blocks++] = (struct held){ mem, usable };
+}
+
+static bool holds(const struct model *m, uint64_t mem)
+{
+    return mem % 16 == 0 && mem < m->p.ours.length
+        && m->usable_at[mem / 16] != 0;
+}
+
+static void let_go(struct model *m, uint64_t mem)
+{
+    uint32_t i = 0;
+    while (m->block[i].mem != mem)
+        i++;
+    m->block[i] = m->block[--m->blocks];
+    m->usable_at[mem / 16] = 0;
+    m->recent[random_below(&m->p.r, RECENT)] = mem;
+}
+
+void put_both(struct pair *p, uint32_t at, uint32_t length)
+{
+    random_bytes(&p->r, p->ours.arena + at, length);
+    memcpy(p->theirs.arena + at, p->ours.arena + at, length);
+}
+
+static void holder_writes(struct model *m, struct held block)
+{
+    struct random *r = &m->p.r;
+    uint32_t from = random_chance(r, 60) ? 0 : random_below(r, block.usable);
+    uint32_t length = random_chance(r, 60)
+        ? block.usable - from : random_below(r, block.usable - from);
+    put_both(&m->p, block.mem + from, length);
+}
+
+static void random_holder_writes(struct model *m)
+{
+    if (m->blocks > 0)
+        holder_writes(m, m->block[random_below(&m->p.r, m->blocks)]);
+}
+
+/* ---- random numbers for calls ---- */
+
+uint64_t extreme(uint32_t i)
+{
+    static const uint64_t number[] = {
+        0, 1, 8, 15, 16, 17, 24, 25, 31, 32, 262104, 262105, 262143, 262144,
+        262145, 262160, 0x7fffffff, 0x80000000, 0xffffffe8, 0xfffffff0,
+        0xffffffff, 0x100000000, 0x100000010, 0x100000018, 0x100040000,
+        0x7fffffffffffffff, 0x8000000000000000, 0x8000000000000010,
+        0xffffffffffffffe8, 0xffffffffffffffe9, 0xfffffffffffffff0,
+        0xfffffffffffffff8, 0xffffffffffffffff
+    };
+    return number[i % (sizeof number / sizeof number[0])];
+}
+
+static uint64_t tile_size(const struct pair *p, uint32_t at)
+{
+    return plain_get(p->ours.arena + at + 8, 8) & ~(uint64_t)15;
+}
+
+/* Near the size of a chunk that is there: equals, rests of 16, 32 and 48. */
+static uint64_t request_like_a_chunk(struct pair *p)
+{
+    uint32_t chosen = 0, seen = 0;
+    uint64_t at = 0, size;
+    for (; at < p->ours.length; at += size) {
+        size = tile_size(p, (uint32_t)at);
+        if (size < 32 || at + size == p->ours.length)
+            break;
+        if (random_below(&p->r, ++seen) == 0)
+            chosen = (uint32_t)at;
+    }
+    size = tile_size(p, chosen);
+    uint64_t less = 8 + 16 * random_below(&p->r, 5);
+    return size > less ? size - less + random_below(&p->r, 2) : 0;
+}
+
+static uint64_t random_request(struct model *m)
+{
+    struct random *r = &m->p.r;
+    uint32_t length = (uint32_t)m->p.ours.length;
+    switch (random_below(r, length < 4096 ? 7 : 11)) {
+    case 0: return random_below(r, 130);
+    case 1: return request_like_a_chunk(&m->p);
+    case 2: return random_below(r, length / 16);
+    case 3:
+        return random_chance(r, 70)  ? random_below(r, length / 4)
+            : random_chance(r, 80)   ? random_below(r, length)
+            : random_chance(r, 50)   ? 262140 + random_below(r, 10)
+                                     : extreme(random_below(r, EXTREMES));
+    case 7: return 980 + random_below(r, 80);
+    case 8: return random_below(r, 1100);
+    case 9: return request_like_a_chunk(&m->p);
+    default: return m->palette[random_below(r, 4)];
+    }
+}
+
+static uint64_t random_held_mem(struct model *m)
+{
+    return m->blocks == 0 ? 0 : m->block[random_below(&m->p.r, m->blocks)].mem;
+}
+
+/* Released before, unaligned, inside a block, outside the arena, cut short. */
+static uint64_t random_wrong_mem(struct model *m)
+{
+    struct random *r = &m->p.r;
+    uint32_t near = random_below(r, (uint32_t)m->p.ours.length + 64);
+    switch (random_below(r, 9)) {
+    case 0: case 1: case 2: return m->recent[random_below(r, RECENT)];
+    case 3: return near;
+    case 4: return near & ~15u;
+    case 5: return random_held_mem(m) + 1 + random_below(r, 32);
+    case 6: return plain_word(m->p.ours.record, 1) + 16;
+    case 7:
+        return ((uint64_t)1 << (32 + random_below(r, 32)))
+            + random_held_mem(m);
+    default: return extreme(random_below(r, EXTREMES));
+    }
+}
+
+/* ---- demand 3 ---- */
+
+static bool listed(enum plain_state s)
+{
+    return s == PLAIN_CACHED || s == PLAIN_FAST;
+}
+
+/* Each stretch outside held chunks is one free chunk, the last is the top. */
+static void one_free_chunk_each(struct model *m)
+{
+    const struct lent *l = &m->p.ours;
+    uint32_t found = 0;
+    bool free_before = false;
+
+    plain_read(&view, l->arena, (uint32_t)l->length, l->record);
+    for (uint32_t i = 0; i < view.tiles; i++) {
+        const struct plain_tile *t = &view.tile[i];
+        uint32_t usable = t->state == PLAIN_TOP
+            ? 0 : m->usable_at[t->at / 16 + 1];
+        bool held = usable != 0;
+        found += held;
+        CHECK(!held || usable == t->size - 8,
+              "seed %llu: the held block at %u has another size word",
+              (unsigned long long)m->p.seed, t->at + 16);
+        CHECK(held == (t->state == PLAIN_LIVE) && !listed(t->state),
+              "seed %llu: after a settle chunk %u is held, or not, wrongly",
+              (unsigned long long)m->p.seed, t->at);
+        CHECK(held || !free_before,
+              "seed %llu: after a settle two free chunks touch at %u",
+              (unsigned long long)m->p.seed, t->at);
+        free_before = !held;
+    }
+    CHECK(found == m->blocks, "seed %llu: %u blocks held, %u found",
+          (unsigned long long)m->p.seed, m->blocks, found);
+    CHECK(plain_word(l->record, 1) == view.tile[view.tiles - 1].at,
+          "seed %llu: after a settle the last chunk is not the top",
+          (unsigned long long)m->p.seed);
+    CHECK(plain_word(l->record, 2) == PLAIN_NONE32,
+          "seed %llu: the last remainder outlives a settle",
+          (unsigned long long)m->p.seed);
+}
+
+/* Settled with no block held: the record, and some calls, as newly opened. */
+static void as_newly_opened(struct model *m)
+{
+    struct lent fresh = lend(m->p.ours.length, 0x5a);
+    struct second_answer a = call_ours(&fresh, OPEN, 0);
+    uint32_t granted[6] = { 0 };
+
+    CHECK(a.no == 0 && same_record(&fresh, &m->p.ours),
+          "seed %llu: settled without blocks, but the record is not the one "
+          "of a newly opened arena",
+          (unsigned long long)m->p.seed);
+    for (unsigned i = 0; i < 12 && !group_failed(); i++) {
+        enum call call = i < 6 ? GRANT : RELEASE;
+        uint64_t n = i < 6 ? random_request(m) : granted[(i * 5) % 6];
+        struct second_answer used = both(&m->p, call, n);
+        a = call_ours(&fresh, call, n);
+        CHECK(same_answer(used, a) && same_record(&fresh, &m->p.ours),
+              "seed %llu: %s %llu after a settle without blocks is not "
+              "answered as on a newly opened arena",
+              (unsigned long long)m->p.seed, call_name[call],
+              (unsigned long long)n);
+        if (i < 6)
+            granted[i] = used.mem;
+    }
+    give_back(&fresh);
+    struct second_answer settled = both(&m->p, SETTLE, 0);
+    CHECK(settled.no == 0, "seed %llu: a settle was refused",
+          (unsigned long long)m->p.seed);
+}
+
+/* ---- calls with holders ---- */
+
+uint32_t model_grant(struct model *m, uint64_t n)
+{
+    struct second_answer a = both(&m->p, GRANT, n);
+    if (group_failed())
+        return 0;
+    if (a.no != 0) {
+        CHECK(a.no == (n > 262144 ? 2 : 5), "seed %llu: grant %llu refused "
+              "with %u", (unsigned long long)m->p.seed, (unsigned long long)n,
+              a.no);
+        return 0;
+    }
+    CHECK(a.usable >= n && a.usable % 16 == 8, "seed %llu: grant %llu has %u "
+          "usable bytes", (unsigned long long)m->p.seed,
+          (unsigned long long)n, a.usable);
+    hold(m, a.mem, a.usable);
+    if (!group_failed() && random_chance(&m->p.r, 80))
+        holder_writes(m, m->block[m->blocks - 1]);
+    return a.mem;
+}
+
+void model_release(struct model *m, uint64_t mem)
+{
+    bool held = holds(m, mem);
+    struct second_answer a = both(&m->p, RELEASE, mem);
+    CHECK(a.no == (held || mem == 0 ? 0 : 4),
+          "seed %llu: release %llu, %s, answered %u",
+          (unsigned long long)m->p.seed, (unsigned long long)mem,
+          held ? "held" : "not held", a.no);
+    if (held && !group_failed())
+        let_go(m, mem);
+}
+
+void model_settle(struct model *m)
+{
+    struct second_answer a = both(&m->p, SETTLE, 0);
+    CHECK(a.no == 0 && is_sound(&m->p.ours), "seed %llu: a settle answered %u",
+          (unsigned long long)m->p.seed, a.no);
+    if (!group_failed())
+        one_free_chunk_each(m);
+    if (!group_failed() && m->blocks == 0)
+        as_newly_opened(m);
+}
+
+static void release_down_to(struct model *m, uint32_t keep)
+{
+    while (m->blocks > keep && !group_failed())
+        model_release(m, random_held_mem(m));
+}
+
+/* One request again and again: past the cache to the lists behind it. */
+void grants_in_a_row(struct model *m)
+{
+    uint64_t n = random_request(m);
+    for (uint32_t i = 8 + random_below(&m->p.r, 8); i > 0; i--)
+        if (!group_failed())
+            model_grant(m, n);
+}
+
+void random_call(struct model *m)
+{
+    struct random *r = &m->p.r;
+    uint32_t drawn = random_below(r, 1000);
+
+    if (drawn < 15)
+        model_settle(m);
+    else if (drawn < 65)
+        model_release(m, random_wrong_mem(m));
+    else if (drawn < 70)
+        model_release(m, 0);
+    else if (drawn < 76)
+        release_down_to(m, random_chance(r, 20) ? 0 : random_below(r, 8));
+    else if (drawn < 82)
+        grants_in_a_row(m);
+    else if (m->blocks == 0 || random_chance(r, m->grant_percent))
+        model_grant(m, random_request(m));
+    else
+        model_release(m, random_held_mem(m));
+    if (!group_failed())
+        random_holder_writes(m);
+}
+
+/* Calls, then a settle with what is held, then one with nothing held. */
+void random_calls(struct model *m, uint32_t calls)
+{
+    while (m->p.calls < calls && !group_failed())
+        random_call(m);
+    if (!group_failed())
+        model_settle(m);
+    release_down_to(m, 0);
+    if (!group_failed())
+        model_settle(m);
+}

@@ -1,0 +1,199 @@
+#include "pair.h"
+
+#include <stdio.h>
+#include <stdlib.h>
+#include <string.h>
+
+#include "heap.h"
+
+const char *const call_name[] = { "open", "grant", "release", "settle",
+                                  "audit" };
+
+struct tally tally;
+
+void *memory(size_t length)
+{
+    void *bytes = malloc(length == 0 ? 1 : length);
+    if (bytes == NULL) {
+        fputs("tests/archive: no memory for the test's own buffers\n", stderr);
+        exit(2);
+    }
+    return bytes;
+}
+
+/* ---- one call on both ---- */
+
+struct second_answer call_ours(struct lent *l, enum call call,
+                               uint64_t number)
+{
+    struct heap_answer a = { 0, 0, 0 };
+    switch (call) {
+    case OPEN:
+        a = heap_open(l->arena, l->length, l->record, l->record_len);
+        break;
+    case GRANT:
+        a = heap_grant(l->arena, l->length, l->record, l->record_len, number);
+        break;
+    case RELEASE:
+        a = heap_release(l->arena, l->length, l->record, l->record_len,
+                         number);
+        break;
+    case SETTLE:
+        a = heap_settle(l->arena, l->length, l->record, l->record_len);
+        break;
+    case AUDIT:
+        break;
+    }
+    return (struct second_answer){ a.no, a.mem, a.usable };
+}
+
+struct second_answer call_theirs(struct lent *l, enum call call,
+                                 uint64_t number)
+{
+    switch (call) {
+    case OPEN: return lent_open(l);
+    case GRANT: return lent_grant(l, number);
+    case RELEASE: return lent_release(l, number);
+    case SETTLE: return lent_settle(l);
+    case AUDIT: break;
+    }
+    return (struct second_answer){ 0, 0, 0 };
+}
+
+struct second_fault audit_ours(const struct lent *l)
+{
+    struct heap_fault f =
+        heap_audit(l->arena, l->length, l->record, l->record_len);
+    return (struct second_fault){ f.no, f.kind, f.number };
+}
+
+bool same_answer(struct second_answer a, struct second_answer b)
+{
+    return a.no == b.no && a.mem == b.mem && a.usable == b.usable;
+}
+
+bool same_fault(struct second_fault a, struct second_fault b)
+{
+    return a.no == b.no && a.kind == b.kind && a.number == b.number;
+}
+
+bool is_sound(const struct lent *l)
+{
+    return same_fault(audit_ours(l), (struct second_fault){ 0, 0, 0 });
+}
+
+/* Tells the first byte that differs, if one does. */
+static bool same_bytes(const struct pair *p, const char *buffer,
+                       const uint8_t *ours, const uint8_t *theirs,
+                       size_t length, const char *call, uint64_t number)
+{
+    size_t at = 0;
+    if (memcmp(ours, theirs, length) == 0)
+        return check_good();
+    while (ours[at] == theirs[at])
+        at++;
+    return CHECK(false,
+                 "seed %llu, call %u, arena of %zu, %s %llu: %s byte %zu is "
+                 "0x%02x, the second program's 0x%02x",
+                 (unsigned long long)p->seed, p->calls, p->ours.length, call,
+                 (unsigned long long)number, buffer, at, ours[at], theirs[at]);
+}
+
+static void compare_buffers(const struct pair *p, const char *call,
+                            uint64_t number)
+{
+    same_bytes(p, "record", p->ours.record, p->theirs.record,
+               p->ours.record_len, call, number);
+    same_bytes(p, "arena", p->ours.arena, p->theirs.arena, p->ours.length,
+               call, number);
+}
+
+struct second_fault both_audits(struct pair *p)
+{
+    struct second_fault ours = audit_ours(&p->ours);
+    struct second_fault theirs = lent_audit(&p->theirs);
+
+    tally.audits++;
+    tally.faults[theirs.kind]++;
+    CHECK(same_fault(ours, theirs),
+          "seed %llu, call %u, arena of %zu: the audit says %u %u %u, the "
+          "second program's %u %u %u",
+          (unsigned long long)p->seed, p->calls, p->ours.length, ours.no,
+          ours.kind, ours.number, theirs.no, theirs.kind, theirs.number);
+    return theirs;
+}
+
+struct second_answer both(struct pair *p, enum call call,
+                          uint64_t number)
+{
+    struct second_answer ours = call_ours(&p->ours, call, number);
+    struct second_answer theirs = call_theirs(&p->theirs, call, number);
+
+    tally.calls++;
+    p->calls++;
+    tally.refused[theirs.no]++;
+    CHECK(same_answer(ours, theirs),
+          "seed %llu, call %u, arena of %zu, %s %llu: answered %u %u %u, by "
+          "the second program %u %u %u",
+          (unsigned long long)p->seed, p->calls, p->ours.length,
+          call_name[call], (unsigned long long)number, ours.no, ours.mem,
+          ours.usable, theirs.no, theirs.mem, theirs.usable);
+    compare_buffers(p, call_name[call], number);
+    both_audits(p);
+    compare_buffers(p, "audit after", number);
+    return ours;
+}
+
+/* A call that must be refused with that number and write nothing. */
+void refused(struct pair *p, enum call call, uint64_t number,
+             uint32_t no)
+{
+    struct lent before = lend(p->ours.length, 0);
+    copy_lent(&before, &p->ours);
+    struct second_answer a = both(p, call, number);
+    CHECK(a.no == no && a.mem == 0 && a.usable == 0,
+          "seed %llu: %s %llu answered %u %u %u, not %u 0 0",
+          (unsigned long long)p->seed, call_name[call],
+          (unsigned long long)number, a.no, a.mem, a.usable, no);
+    CHECK(same_arena(&before, &p->ours) && same_record(&before, &p->ours),
+          "seed %llu: %s %llu, refused with %u, wrote",
+          (unsigned long long)p->seed, call_name[call],
+          (unsigned long long)number, no);
+    give_back(&before);
+}
+
+/* ---- pairs ---- */
+
+struct pair pair_new(uint64_t seed, struct random r, size_t length)
+{
+    return (struct pair){ r, seed, 0, lend(length, 0), lend(length, 0) };
+}
+
+void pair_free(struct pair *p)
+{
+    give_back(&p->ours);
+    give_back(&p->theirs);
+}
+
+/* The archive's heap is drawn, the second program's is a copy of it. */
+void same_start(struct pair *p)
+{
+    copy_lent(&p->theirs, &p->ours);
+}
+
+void open_pair(struct pair *p)
+{
+    random_bytes(&p->r, p->ours.arena, p->ours.length);
+    random_bytes(&p->r, p->ours.record, p->ours.record_len);
+    same_start(p);
+    struct second_answer a = both(p, OPEN, 0);
+    CHECK(a.no == 0 && is_sound(&p->ours), "seed %llu: open refused",
+          (unsigned long long)p->seed);
+}
+
+struct pair opened(uint64_t seed, size_t length)
+{
+    struct pair p = pair_new(seed, (struct random){ seed }, length);
+    open_pair(&p);
+    return p;
+}

@@ -1,0 +1,57 @@
+/*
+ * The same heap twice, one for the archive and one for the second program,
+ * and calls that are made on both and compared.
+ */
+#ifndef PAIR_H
+#define PAIR_H
+
+#include <stdbool.h>
+#include <stddef.h>
+#include <stdint.h>
+
+#include "check.h"
+#include "random_heap.h"
+
+enum call { OPEN, GRANT, RELEASE, SETTLE, AUDIT };
+
+extern const char *const call_name[];
+
+struct pair {
+    struct random r;
+    uint64_t seed;
+    uint32_t calls;
+    struct lent ours, theirs;
+};
+
+/* What the whole run did. */
+extern struct tally {
+    uint64_t calls, audits, refused[6], faults[7];
+} tally;
+
+/* Exactly that many bytes (one for none), or the program ends. */
+void *memory(size_t length);
+
+/* One call on one of the two; AUDIT is none of them. */
+struct second_answer call_ours(struct lent *l, enum call call,
+                               uint64_t number);
+struct second_answer call_theirs(struct lent *l, enum call call,
+                                 uint64_t number);
+struct second_fault audit_ours(const struct lent *l);
+bool same_answer(struct second_answer a, struct second_answer b);
+bool same_fault(struct second_fault a, struct second_fault b);
+bool is_sound(const struct lent *l); /* by the archive's audit */
+
+/* One call on both, all bytes compared after it; the archive's answer. */
+struct second_answer both(struct pair *p, enum call call, uint64_t number);
+struct second_fault both_audits(struct pair *p);
+
+/* As both, for a call that must be refused with no and write nothing. */
+void refused(struct pair *p, enum call call, uint64_t number, uint32_t no);
+
+struct pair pair_new(uint64_t seed, struct random r, size_t length);
+void pair_free(struct pair *p);
+void same_start(struct pair *p); /* copies the archive's heap to the other */
+void open_pair(struct pair *p);  /* over random bytes */
+struct pair opened(uint64_t seed, size_t length);
+
+#endif

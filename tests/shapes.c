@@ -1,0 +1,197 @@
+/*
+ * Lengths that are refused, and numbers at the ends of their range.
+ */
+#define _DEFAULT_SOURCE
+#include "groups.h"
+
+#include <string.h>
+#include <sys/mman.h>
+
+#include "holders.h"
+#include "plain.h"
+
+/* ---- shapes ---- */
+
+/* A refused open leaves this in a record of 1,572 bytes. */
+static bool is_closed(const uint8_t *record)
+{
+    for (unsigned word = 0; word < 393; word++) {
+        bool zero = word == 0 || (word >= 67 && word < 131);
+        if (plain_word(record, word) != (zero ? 0 : PLAIN_NONE32))
+            return false;
+    }
+    return true;
+}
+
+static struct lent lend_shape(size_t length, size_t record_len)
+{
+    return (struct lent){ memory(length), memory(record_len), length,
+                          record_len };
+}
+
+/* What a careless reader might take for an opened heap of that length. */
+static void tempt(struct random *r, struct lent *l)
+{
+    random_bytes(r, l->arena, l->length);
+    memset(l->record, random_chance(r, 50) ? 0 : 0xff, l->record_len);
+    if (random_chance(r, 20) || l->length < 16 || l->record_len < 8)
+        return;
+    plain_put(l->arena + 8, 8, l->length | 1);
+    plain_put_word(l->record, 0, (uint32_t)l->length);
+    plain_put_word(l->record, 1, 0);
+}
+
+void refused_shape(struct random *r, enum call call, size_t length,
+                   size_t record_len)
+{
+    struct lent ours = lend_shape(length, record_len);
+    struct lent theirs = lend_shape(length, record_len);
+    struct lent before = lend_shape(length, record_len);
+    uint64_t number = extreme(random_below(r, EXTREMES));
+    struct second_answer a = { 1, 0, 0 };
+    bool closes = call == OPEN && record_len == 1572;
+
+    tempt(r, &ours);
+    memcpy(before.arena, ours.arena, length);
+    memcpy(before.record, ours.record, record_len);
+    memcpy(theirs.arena, ours.arena, length);
+    memcpy(theirs.record, ours.record, record_len);
+    if (call == AUDIT) {
+        CHECK(same_fault(audit_ours(&ours), (struct second_fault){ 1, 0, 0 }),
+              "audit of lengths %zu and %zu is not answered 1 0 0", length,
+              record_len);
+    } else {
+        a = call_ours(&ours, call, number);
+        call_theirs(&theirs, call, number);
+        tally.calls++;
+        tally.refused[1]++;
+    }
+    CHECK(a.no == 1 && a.mem == 0 && a.usable == 0,
+          "%s of lengths %zu and %zu answered %u %u %u, not 1 0 0",
+          call_name[call], length, record_len, a.no, a.mem, a.usable);
+    CHECK(memcmp(ours.arena, before.arena, length) == 0,
+          "%s of lengths %zu and %zu, refused, wrote in the arena",
+          call_name[call], length, record_len);
+    CHECK(closes ? is_closed(ours.record)
+                 : memcmp(ours.record, before.record, record_len) == 0,
+          "%s of lengths %zu and %zu, refused, leaves another record",
+          call_name[call], length, record_len);
+    CHECK(memcmp(ours.record, theirs.record, record_len) == 0,
+          "%s of lengths %zu and %zu leaves another record than the second "
+          "program",
+          call_name[call], length, record_len);
+    give_back(&ours);
+    give_back(&theirs);
+    give_back(&before);
+}
+
+void bad_shapes(void)
+{
+    static const size_t length[] = { 0,  1,  8,   15,  16,     17,     24,
+                                     31, 33, 40,  47,  49,     1000,   4104,
+                                     262128 + 8,  262143, 262145, 262152,
+                                     262160, 262176, 524288 };
+    static const size_t good[] = { 32, 48, 4096, 262144 };
+    static const size_t record_len[] = { 0, 1, 4, 1568, 1571, 1573, 1576,
+                                         1580, 1584, 3144 };
+    struct random r = { 11 };
+
+    group("bad shapes: refused with 1, nothing written but a closed record");
+    for (unsigned call = OPEN; call <= AUDIT; call++) {
+        for (unsigned i = 0; i < sizeof length / sizeof length[0]; i++) {
+            refused_shape(&r, call, length[i], 1572);
+            for (unsigned j = 0; j < 10; j++)
+                refused_shape(&r, call, length[i], record_len[j]);
+        }
+        for (unsigned i = 0; i < 4; i++)
+            for (unsigned j = 0; j < 10; j++)
+                refused_shape(&r, call, good[i], record_len[j]);
+    }
+}
+
+/* Lengths that are allowed once cut to 32 bits, in memory nobody may touch. */
+void lengths_past_32_bits(void)
+{
+    size_t past = (size_t)1 << 32, most = past + 262144;
+    uint8_t *far = mmap(NULL, most, PROT_NONE,
+                        MAP_PRIVATE | MAP_ANONYMOUS | MAP_NORESERVE, -1, 0);
+    struct lent near = lend(64, 0);
+
+    group("lengths past 32 bits are refused, and nothing is read");
+    if (far == MAP_FAILED) {
+        remark(", left out: the system lends no such stretch");
+        give_back(&near);
+        return;
+    }
+    for (unsigned call = GRANT; call <= AUDIT; call++)
+        for (unsigned i = 0; i < 3; i++) {
+            struct lent l = i == 0 ? near
+                : (struct lent){ far, near.record, past + 64, 1572 };
+            if (i != 1) {
+                l.record = far;
+                l.record_len = past + 1572;
+            }
+            uint32_t no = call == AUDIT ? audit_ours(&l).no
+                                        : call_ours(&l, call, 16).no;
+            tally.calls += call != AUDIT;
+            CHECK(no == 1, "%s of lengths %zu and %zu answered %u, not 1",
+                  call_name[call], l.length, l.record_len, no);
+        }
+    struct lent l = { far, near.record, past + 64, 1572 };
+    CHECK(call_ours(&l, OPEN, 0).no == 1 && is_closed(near.record),
+          "open of a length past 32 bits is not refused with 1");
+    munmap(far, most);
+    give_back(&near);
+}
+
+void closed_heaps(void)
+{
+    group("after a refused open every call but open is refused with 3");
+    for (size_t length = 32; length <= 262144; length *= 2) {
+        struct pair p = opened(length, length);
+        p.ours.length = p.theirs.length = 16;
+        both(&p, OPEN, 0);
+        p.ours.length = p.theirs.length = length;
+        CHECK(is_closed(p.ours.record), "a refused open leaves no closed "
+              "record, arena of %zu", length);
+        CHECK(same_fault(audit_ours(&p.ours), (struct second_fault){ 0, 1, 0 }),
+              "the audit of a closed record does not name the record");
+        refused(&p, GRANT, 0, 3);
+        refused(&p, RELEASE, 0, 3);
+        refused(&p, SETTLE, 0, 3);
+        refused(&p, GRANT, 262145, 2);
+        open_pair(&p);
+        pair_free(&p);
+    }
+}
+
+/* ---- extreme numbers ---- */
+
+void extreme_numbers(void)
+{
+    static const size_t length[] = { 32, 48, 64, 80, 4096, 262144 };
+
+    group("extreme numbers");
+    for (unsigned i = 0; i < 6; i++)
+        for (uint32_t k = 0; k < EXTREMES && !group_failed(); k++) {
+            struct pair p = opened(500 + k, length[i]);
+            uint64_t n = extreme(k);
+            if (n > 262144)
+                refused(&p, GRANT, n, 2);
+            struct second_answer a = both(&p, GRANT, n);
+            CHECK(a.no == (n > 262144 ? 2 : n + 23 - (n + 23) % 16 + 32
+                                                <= length[i] && length[i] >= 64
+                                            ? 0 : 5),
+                  "grant %llu in %zu bytes answered %u",
+                  (unsigned long long)n, length[i], a.no);
+            if (n == 0)
+                refused(&p, RELEASE, 0, 0);
+            else if (n != 16 || a.no != 0)
+                refused(&p, RELEASE, n, 4);
+            plain_put(p.ours.arena + 8, 8, 17);
+            plain_put(p.theirs.arena + 8, 8, 17);
+            refused(&p, GRANT, n, n > 262144 ? 2 : 3);
+            refused(&p, RELEASE, n, 3);
+            pair_free(&p);
+        }
+}
