@@ -3,3 +3,10 @@ pub mod Ways
 pub mod Looks
 pub mod Through
 pub mod Grants
+pub mod Bytes
+pub mod Written
+pub mod Remainder
+pub mod Results
+pub mod Left
+pub mod Cases
+pub mod Consequences

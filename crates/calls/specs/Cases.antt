@@ -1,0 +1,128 @@
+-- The ways through each call, on bytes of good shape: what holds in each of them holds of the call. Assumes nothing.
+use mathlib.Core.Path.{_≡_, refl, sym, ap, _∙_, subst}
+use mathlib.Core.List.{List, [], _∷_}
+use mathlib.Core.Bool.{Bool, true, false}
+use mathlib.Core.Logic.{⊎-elim}
+use Prim.Native.Nat.{ℕ, _+_, _-_, _≤_, _<_}
+use native.Mathlib.Omega.{arith}
+use lib.Dec.{eqb, ltb, leb}
+use lib.ListN.{length}
+use borrow.Author.Tests.{eq-eqb, ne-eqb, lt-ltb, le-ltb, le-leb, leb-true}
+use Rattle.le.specs.Number.{bytes}
+use Rattle.le.specs.Arena.{arenaWords}
+use Rattle.sizes.specs.Limits.{mostRequest}
+use Rattle.sizes.specs.Sizes.{need, usable}
+use Rattle.machine.specs.Lists.{both}
+use Rattle.machine.specs.Count.{eq?}
+use Rattle.machine.specs.Heap.{Heap, opened, sizeOf, live?}
+use Rattle.machine.specs.Writes.{size, Ran, ran, heapOf, writes}
+use Rattle.machine.specs.Release.{release, settle}
+use Rattle.machine.specs.Grant.{grant}
+use Rattle.machine.specs.Audit.{sound?, auditOf}
+use Rattle.machine.specs.Calls.{After, after, left, refused, arenaAllowed?, shape?, wordsOf, heapIn, onSound, closedRecord, openCall, granted, grantCall, done, releaseCall, settleCall}
+use Rattle.machine.specs.declared.{Got.Got, Got.the-variants.At, Got.the-variants.Nothing}
+use Rattle.machine.specs.declared.Refusal.the-variants as R
+use Rattle.machine.specs.declared.Answer.the-variants.{Done, Granted, Refused}
+use Rattle.sound.specs.Tiles.{lt-or-le}
+use Rattle.sound.specs.Moves.{answerOf}
+use Rattle.sound.specs.Release.{both-true}
+use Rattle.calls.specs.Ways.{on-sound, grant-request, grant-unsound, release-unsound, release-null, release-dead, settle-unsound}
+use Rattle.calls.specs.Results.{Lent, SoundIn, UnsoundIn, LiveMem}
+use Rattle.calls.specs.Left.{lent-shape}
+
+-- the audit says one or the other
+pub sound-or-not : {B : Type 0} (a r : List ℕ) → (SoundIn a r → B) → (UnsoundIn a r → B) → B
+sound-or-not a r f g = go (sound? (auditOf (arenaWords a) (wordsOf r))) f g
+  where
+    go : {B : Type 0} (t : Bool) → (t ≡ true → B) → (t ≡ false → B) → B
+    go true f g = f refl
+    go false f g = g refl
+
+-- ---- what a step comes to
+got-cases : (a : List ℕ) (s : Ran Got) (P : After → Type 0) → (answerOf s ≡ Nothing → P (left a (heapOf s) (writes s) (Refused R.NoRoom)))
+    → ((c : ℕ) → answerOf s ≡ At c → P (left a (heapOf s) (writes s) (Granted (c + 16) (usable (sizeOf (heapOf s) c))))) → P (granted a s)
+got-cases a (ran h ws (At c)) P f g = g c refl
+got-cases a (ran h ws Nothing) P f g = f refl
+
+done-case : {A : Type 0} (a : List ℕ) (s : Ran A) (P : After → Type 0) → P (left a (heapOf s) (writes s) Done) → P (done a s)
+done-case a (ran h ws x) P p = p
+
+both-live : (h : Heap) (m : ℕ) → 16 ≤ m → live? h (m - 16) ≡ true → both (leb 16 m) (live? h (m - 16)) ≡ true
+both-live h m l e = ap (λ (t : Bool). both t (live? h (m - 16))) (le-leb 16 m l) ∙ e
+
+-- ---- the calls
+pub open-called : (a r : List ℕ) → Lent a r → left a (opened (length a)) (size 0 (length a) 1 ∷ []) Done ≡ openCall a r
+unfolding openCall
+open-called a r L =
+    let x : After = left a (opened (length a)) (size 0 (length a) 1 ∷ []) Done in
+    let y : After = after a (bytes 4 closedRecord) (Refused R.Shape) in
+    ap (λ (t : Bool). elim t [ true ↦ x | false ↦ y ]) (sym (lent-shape a r L .0))
+    ∙ ap (λ (t : Bool). elim t [ true ↦ elim (arenaAllowed? (length a)) [ true ↦ x | false ↦ y ] | false ↦ refused a r R.Shape ]) (sym (eq-eqb (length r) 1572 (L .long)))
+
+module _ (a r : List ℕ) (L : Lent a r) (P : After → Type 0) where
+  good : shape? a r ≡ true
+  good = lent-shape a r L .1
+
+  grant-called : (n : ℕ) → n ≤ 262144 → SoundIn a r → granted a (grant (need n) (heapIn a r)) ≡ grantCall a r n
+  unfolding grantCall
+  grant-called n l S =
+      on-sound a r (λ h. granted a (grant (need n) h)) good S
+      ∙ ap (λ (t : Bool). elim t [ true ↦ refused a r R.Request | false ↦ onSound a r (λ h. granted a (grant (need n) h)) ])
+      (sym (ap (λ (t : Bool). both t (ltb mostRequest n)) good ∙ le-ltb mostRequest n l))
+
+  pub grant-cases : (n : ℕ) → (262144 < n → P (after a r (Refused R.Request))) → (UnsoundIn a r → P (after a r (Refused R.Unsound)))
+      → (n ≤ 262144 → SoundIn a r → answerOf (grant (need n) (heapIn a r)) ≡ Nothing
+      → P (left a (heapOf (grant (need n) (heapIn a r))) (writes (grant (need n) (heapIn a r))) (Refused R.NoRoom)))
+      → (n ≤ 262144 → SoundIn a r → (c : ℕ) → answerOf (grant (need n) (heapIn a r)) ≡ At c
+      → P (left a (heapOf (grant (need n) (heapIn a r))) (writes (grant (need n) (heapIn a r))) (Granted (c + 16) (usable (sizeOf (heapOf (grant (need n) (heapIn a r))) c)))))
+      → P (grantCall a r n)
+  grant-cases n large unsound none at = ⊎-elim
+      (λ l. subst P (grant-request a r n good (lt-ltb mostRequest n l)) (large l))
+      (λ l. sound-or-not a r
+      (λ S. subst P (grant-called n l S) (got-cases a (grant (need n) (heapIn a r)) P (none l S) (at l S)))
+      (λ U. subst P (grant-unsound a r n good (le-ltb mostRequest n l) U) (unsound U)))
+      (lt-or-le 262144 n)
+
+  release-called : (m : ℕ) → SoundIn a r → (m ≡ 0 → ⊥) → both (leb 16 m) (live? (heapIn a r) (m - 16)) ≡ true → done a (release (m - 16) (heapIn a r)) ≡ releaseCall a r m
+  unfolding releaseCall
+  release-called m S z v =
+      ap (λ (t : Bool). elim t [ true ↦ done a (release (m - 16) (heapIn a r)) | false ↦ refused a r R.NotLive ]) (sym v)
+      ∙ ap (λ (t : Bool). elim t [
+        | true ↦ after a r Done
+        | false ↦ elim (both (leb 16 m) (live? (heapIn a r) (m - 16))) [ true ↦ done a (release (m - 16) (heapIn a r)) | false ↦ refused a r R.NotLive ]
+      ]) (sym (ne-eqb m 0 z))
+      ∙ on-sound a r (λ h. elim (eqb m 0) [
+        | true ↦ after a r Done
+        | false ↦ elim (both (leb 16 m) (live? h (m - 16))) [ true ↦ done a (release (m - 16) h) | false ↦ refused a r R.NotLive ]
+      ]) good S
+
+  pub release-cases : (m : ℕ) → (UnsoundIn a r → P (after a r (Refused R.Unsound))) → (SoundIn a r → m ≡ 0 → P (after a r Done))
+      → (SoundIn a r → (m ≡ 0 → ⊥) → (LiveMem a r m → ⊥) → P (after a r (Refused R.NotLive)))
+      → (SoundIn a r → LiveMem a r m → P (left a (heapOf (release (m - 16) (heapIn a r))) (writes (release (m - 16) (heapIn a r))) Done))
+      → P (releaseCall a r m)
+  release-cases m unsound null dead live =
+      sound-or-not a r
+      (λ S. ⊎-elim
+      (λ z. subst P (release-null a r m good S (eq-eqb m 0 z)) (null S z))
+      (λ z. go S z (both (leb 16 m) (live? (heapIn a r) (m - 16))) refl)
+      (eq? m 0))
+      (λ U. subst P (release-unsound a r m good U) (unsound U))
+    where
+      go : SoundIn a r → (m ≡ 0 → ⊥) → (t : Bool) → both (leb 16 m) (live? (heapIn a r) (m - 16)) ≡ t → P (releaseCall a r m)
+      go S z true e =
+          let p = both-true (leb 16 m) (live? (heapIn a r) (m - 16)) e in
+          subst P (release-called m S z e) (done-case a (release (m - 16) (heapIn a r)) P (live S (leb-true 16 m (p .0), p .1)))
+      go S z false e =
+          subst P (release-dead a r m good S (ne-eqb m 0 z) e)
+          (dead S z (λ v. absurd (let q : true ≡ false = sym (both-live (heapIn a r) m (v .0) (v .1)) ∙ e in let z : _≡_ {A = ℕ} 0 1 = cc in omega arith)))
+
+  settle-called : SoundIn a r → done a (settle (heapIn a r)) ≡ settleCall a r
+  unfolding settleCall
+  settle-called S = on-sound a r (λ h. done a (settle h)) good S
+
+  pub settle-cases : (UnsoundIn a r → P (after a r (Refused R.Unsound)))
+      → (SoundIn a r → P (left a (heapOf (settle (heapIn a r))) (writes (settle (heapIn a r))) Done)) → P (settleCall a r)
+  settle-cases unsound through =
+      sound-or-not a r
+      (λ S. subst P (settle-called S) (done-case a (settle (heapIn a r)) P (through S)))
+      (λ U. subst P (settle-unsound a r good U) (unsound U))

@@ -1,0 +1,269 @@
+-- What follows from the calls on bytes, by the names that reviewers ask for. The premise is good shape (Lent), and a sound heap where one is meant (SoundIn);
+-- each theorem goes by the ways through its call and what each step does to the live blocks. Assumes nothing.
+use mathlib.Core.Path.{_≡_, refl, sym, ap, _∙_, subst}
+use mathlib.Core.List.{List, [], _∷_}
+use mathlib.Core.Bool.{Bool, true, false}
+use mathlib.Core.Logic.{inl, inr, ⊎-elim}
+use Prim.Native.Nat.{ℕ, _+_, _-_, _≤_, _<_}
+use native.Mathlib.Omega.{arith}
+use lib.ListN.{length}
+use borrow.Author.Tests.{le-ltb, lt-ltb}
+use Rattle.le.specs.Arena.{arenaWords}
+use Rattle.le.specs.ArenaLaws.{length-arenaWords}
+use Rattle.sizes.specs.Limits.{mostRequest}
+use Rattle.sizes.specs.Sizes.{need, usable}
+use Rattle.sizes.specs.SizesLaws.{Fitting, need-bounds}
+use Rattle.machine.specs.Lists.{cnt}
+use Rattle.machine.specs.Count.{ind-same}
+use Rattle.machine.specs.Heap.{Heap, stack, opened, topOf, starts, sizeOf, live?}
+use Rattle.machine.specs.Writes.{size, Ran, does, heapOf, writes}
+use Rattle.machine.specs.Release.{release, settle}
+use Rattle.machine.specs.Grant.{grant}
+use Rattle.machine.specs.Calls.{After, after, shape?, wordsOf, heapIn, openCall, grantCall, releaseCall, settleCall, auditCall}
+use Rattle.machine.specs.declared.{Got.Got, Got.the-variants.Nothing}
+use Rattle.machine.specs.declared.Refusal.{Refusal}
+use Rattle.machine.specs.declared.Refusal.the-variants as R
+use Rattle.machine.specs.declared.Answer.{Answer}
+use Rattle.machine.specs.declared.Answer.the-variants.{Done, Granted, Refused}
+use Rattle.machine.specs.declared.Audited.{Audited}
+use Rattle.sound.specs.Relation.{Loose, Good, Sound}
+use Rattle.sound.specs.Tiles.{start}
+use Rattle.sound.specs.Frames.{Starts, starts-all, apply-length}
+use Rattle.sound.specs.Edits.{fits-tiles, size-32}
+use Rattle.sound.specs.Spares.{clear-of}
+use Rattle.sound.specs.Moves.{answerOf}
+use Rattle.sound.specs.Ends.{Ends}
+use Rattle.sound.specs.Opened.{opened-ends}
+use Rattle.sound.specs.Live.{But, Gives, live-loose, loose-live, release-goes, settle-stays, grant-gives, grant-refused}
+use Rattle.calls.specs.Ways.{grant-shape, grant-request, grant-unsound, release-shape, release-unsound, settle-shape, settle-unsound}
+use Rattle.calls.specs.Written.{top-most}
+use Rattle.calls.specs.Remainder.{Fine, grant-fine, release-fine, settle-fine}
+use Rattle.calls.specs.Results.{Lent, SoundIn, UnsoundIn, answered, arenaLeft, recordLeft, heapLeft, LiveMem, Exactly, Fit, CachesKept, LiveKept, GrantedNew}
+use Rattle.calls.specs.Left.{lent-shape, lent-sound, lent-fine, left-heap, left-fit, left-keeps}
+use Rattle.calls.specs.Cases.{open-called, grant-cases, release-cases, settle-cases}
+
+-- ---- number 3: an unsound heap is refused before the first write, and nothing changes
+pub unsound-refused : (a r : List ℕ) (n m : ℕ) → Lent a r → UnsoundIn a r → n ≤ 262144
+    → (grantCall a r n ≡ after a r (Refused R.Unsound)) × (releaseCall a r m ≡ after a r (Refused R.Unsound)) × (settleCall a r ≡ after a r (Refused R.Unsound))
+unsound-refused a r n m L U l =
+    let e = lent-shape a r L .1 in
+    (sym (grant-unsound a r n e (le-ltb mostRequest n l) U), sym (release-unsound a r m e U), sym (settle-unsound a r e U))
+
+-- ---- number 1: bytes of bad shape
+pub bad-shape-refused : (a r : List ℕ) (n m : ℕ) → shape? a r ≡ false
+    → (grantCall a r n ≡ after a r (Refused R.Shape)) × (releaseCall a r m ≡ after a r (Refused R.Shape)) × (settleCall a r ≡ after a r (Refused R.Shape))
+bad-shape-refused a r n m e = (sym (grant-shape a r n e), sym (release-shape a r m e), sym (settle-shape a r e))
+
+-- ---- number 2: a request above 262,144, whether the heap is sound or not
+pub large-refused : (a r : List ℕ) (n : ℕ) → Lent a r → 262144 < n → grantCall a r n ≡ after a r (Refused R.Request)
+large-refused a r n L l = sym (grant-request a r n (lent-shape a r L .1) (lt-ltb mostRequest n l))
+
+-- ---- any two results that meet a promise are equal: every promise says `after .. ≡ call`, and the audit's says `.. ≡ auditCall ..`
+pub results-unique : (call : After) (a b r s : List ℕ) (x y : Answer) → after a r x ≡ call → after b s y ≡ call → (a ≡ b) × (r ≡ s) × (x ≡ y)
+results-unique call a b r s x y p q =
+    let e : after a r x ≡ after b s y = p ∙ sym q in
+    (ap arenaLeft e, ap recordLeft e, ap answered e)
+
+pub audits-unique : (a r : List ℕ) (x y : Audited) → x ≡ auditCall a r → y ≡ auditCall a r → x ≡ y
+audits-unique a r x y p q = p ∙ sym q
+
+-- ---- what cannot be
+clash : {B : Type 0} → _≡_ {A = ℕ} 0 1 → B
+clash z = absurd (omega arith)
+
+no-yes : {B : Type 0} (a r : List ℕ) → SoundIn a r → UnsoundIn a r → B
+no-yes a r S U = clash (cc)
+
+not-live : (h : Heap) (c : ℕ) → (Loose h c → ⊥) → live? h c ≡ false
+not-live h c n = go (live? h c) refl
+  where
+    go : (t : Bool) → live? h c ≡ t → t ≡ false
+    go true e = absurd (n (live-loose h c e))
+    go false e = refl
+
+-- a new block of a sound heap g
+new-block : (h g : Heap) (n c : ℕ) → Good g → Loose g c → need n ≤ sizeOf g c → (Loose h c → ⊥) → GrantedNew h g (g .len) n (c + 16) (usable (sizeOf g c))
+unfolding usable
+new-block h g n c G lo b dead =
+    let k : c + 16 - 16 ≡ c = omega arith in
+    let s = G .shape in
+    let m : 1 ≤ cnt c (starts g) = omega arith in
+    let st = start (g .tiles) 0 c (fits-tiles g s) m in
+    let top : 1 ≤ cnt (topOf g) (Starts g) = omega (arith, starts-all g (topOf g), ind-same (topOf g)) in
+    let z : 32 ≤ sizeOf g c = size-32 g c s m in
+    record {
+      low = omega arith;
+      fresh = rw k (not-live h c dead);
+      live = rw k (loose-live g c s lo);
+      usable = rw k;
+      holds = omega (arith, need-bounds n .holds);
+      inside = ⊎-elim (λ l. absurd (omega (arith, st .high))) (λ l. ⊎-elim (λ e. absurd (omega (arith, st .high))) (λ e. omega (arith, top-most g G)) l) (clear-of g c (topOf g) s m top);
+      apart = λ d ne v.
+          let lo′ : Loose g d = live-loose g d v in
+          let m′ : 1 ≤ cnt d (starts g) = omega (arith, lo′) in
+          ⊎-elim
+          (λ l. ⊎-elim (λ i. absurd (omega arith)) (λ i. ⊎-elim (λ e. absurd (ne (sym e ∙ sym k))) (λ e. inl (omega arith)) i)
+          (clear-of g d c s m′ (omega (arith, starts-all g c))))
+          (λ l. ⊎-elim (λ e. absurd (ne (e ∙ sym k))) (λ e. inr (omega arith)) l)
+          (clear-of g c d s m (omega (arith, starts-all g d)));
+    }
+
+module _ (a r : List ℕ) (L : Lent a r) where
+  -- nothing was written
+  same-keeps : (c : ℕ) (x : Answer) → live? (heapIn a r) c ≡ true → LiveKept a r c (after a r x)
+  same-keeps c x v = record { live = v; size = refl; bytes = λ i l u. refl }
+
+  heard : SoundIn a r → Sound (heapIn a r) (arenaWords a) (wordsOf r)
+  heard S = lent-sound a r L S
+
+  grant-ends : (n : ℕ) → n ≤ 262144 → SoundIn a r → Ends (grant (need n) (heapIn a r)) (arenaWords a) Fine
+  grant-ends n l S =
+      let b : Fitting n (need n) = need-bounds n in
+      grant-fine (need n) (b .whole) (b .least) (b .most l) (heapIn a r) (arenaWords a) (lent-fine a r L S) (heard S .mem)
+
+  gives : (n : ℕ) → SoundIn a r → Gives (need n) (heapIn a r) (grant (need n) (heapIn a r))
+  gives n S = grant-gives (need n) (need-bounds n .whole) (need-bounds n .least) (heapIn a r) (arenaWords a) (heard S .good) (heard S .mem)
+
+  release-ends : (m : ℕ) → SoundIn a r → LiveMem a r m → Ends (release (m - 16) (heapIn a r)) (arenaWords a) Fine
+  release-ends m S v = release-fine (m - 16) (heapIn a r) (arenaWords a) (lent-fine a r L S) (heard S .mem) (live-loose (heapIn a r) (m - 16) (v .1))
+
+  settle-ends : SoundIn a r → Ends (settle (heapIn a r)) (arenaWords a) Fine
+  settle-ends S = settle-fine (heapIn a r) (arenaWords a) (lent-fine a r L S) (heard S .mem)
+
+  open-ends : Ends (does (opened (length a)) (size 0 (length a) 1 ∷ [])) (arenaWords a) Fine
+  open-ends =
+      let o = opened-ends (length a) (arenaWords a) (L .even) (L .least) (L .most) (omega (arith, length-arenaWords a, L .even)) in
+      record { mem = o .1; now = record { good = o .0; low = omega arith } }
+
+  -- ---- numbers 1 to 4 write nothing
+  pub grant-refused-unchanged : (n : ℕ) (x : Refusal) → (x ≡ R.NoRoom → ⊥) → answered (grantCall a r n) ≡ Refused x → grantCall a r n ≡ after a r (Refused x)
+  grant-refused-unchanged n x ne = grant-cases a r L (λ y. answered y ≡ Refused x → y ≡ after a r (Refused x)) n
+      (λ l e. ap (after a r) e) (λ U e. ap (after a r) e) (λ l S q e. absurd (ne (cc)))
+      (λ l S c q e. clash (cc))
+
+  pub release-refused-unchanged : (m : ℕ) (x : Refusal) → answered (releaseCall a r m) ≡ Refused x → releaseCall a r m ≡ after a r (Refused x)
+  release-refused-unchanged m x = release-cases a r L (λ y. answered y ≡ Refused x → y ≡ after a r (Refused x)) m
+      (λ U e. ap (after a r) e) (λ S z e. ap (after a r) e) (λ S z d e. ap (after a r) e)
+      (λ S v e. clash (cc))
+
+  pub settle-refused-unchanged : (x : Refusal) → answered (settleCall a r) ≡ Refused x → settleCall a r ≡ after a r (Refused x)
+  settle-refused-unchanged x = settle-cases a r L (λ y. answered y ≡ Refused x → y ≡ after a r (Refused x))
+      (λ U e. ap (after a r) e) (λ S e. clash (cc))
+
+  -- ---- number 4: a release is refused exactly if the mem is neither 0 nor a live block's
+  pub release-4-exactly : (m : ℕ) → SoundIn a r → Exactly (answered (releaseCall a r m) ≡ Refused R.NotLive) ((m ≡ 0 → ⊥) × (LiveMem a r m → ⊥))
+  release-4-exactly m S = release-cases a r L (λ x. Exactly (answered x ≡ Refused R.NotLive) ((m ≡ 0 → ⊥) × (LiveMem a r m → ⊥))) m
+      (λ U. no-yes a r S U)
+      (λ S z. (λ e. clash (cc), λ q. absurd (q .0 z)))
+      (λ S z d. (λ e. (z, d), λ q. refl))
+      (λ S v. (λ e. clash (cc), λ q. absurd (q .1 v)))
+
+  -- ---- number 5: a grant is refused exactly where step 9 refuses
+  pub grant-5-exactly : (n : ℕ) → SoundIn a r → n ≤ 262144
+      → Exactly (answered (grantCall a r n) ≡ Refused R.NoRoom) (answerOf (grant (need n) (heapIn a r)) ≡ Nothing)
+  grant-5-exactly n S l =
+      grant-cases a r L (λ x. Exactly (answered x ≡ Refused R.NoRoom) (answerOf (grant (need n) (heapIn a r)) ≡ Nothing)) n
+      (λ g. absurd (omega arith))
+      (λ U. no-yes a r S U)
+      (λ l S q. (λ e. q, λ e. refl))
+      (λ l S c q. (λ e. clash (cc), λ e. clash (cc)))
+
+  -- ---- the bytes left spell the heap that the steps left
+  pub open-heap : heapLeft (openCall a r) ≡ opened (length a)
+  open-heap = ap heapLeft (sym (open-called a r L)) ∙ left-heap a r (does (opened (length a)) (size 0 (length a) 1 ∷ [])) Done L open-ends
+
+  pub grant-heap : (n : ℕ) → SoundIn a r → n ≤ 262144 → heapLeft (grantCall a r n) ≡ heapOf (grant (need n) (heapIn a r))
+  grant-heap n S l = grant-cases a r L (λ x. heapLeft x ≡ heapOf (grant (need n) (heapIn a r))) n
+      (λ g. absurd (omega arith)) (λ U. no-yes a r S U)
+      (λ l S q. left-heap a r (grant (need n) (heapIn a r)) (Refused R.NoRoom) L (grant-ends n l S))
+      (λ l S c q.
+      left-heap a r (grant (need n) (heapIn a r)) (Granted (c + 16) (usable (sizeOf (heapOf (grant (need n) (heapIn a r))) c))) L (grant-ends n l S))
+
+  pub release-heap : (m : ℕ) → SoundIn a r → LiveMem a r m → heapLeft (releaseCall a r m) ≡ heapOf (release (m - 16) (heapIn a r))
+  release-heap m S v = release-cases a r L (λ x. heapLeft x ≡ heapOf (release (m - 16) (heapIn a r))) m
+      (λ U. no-yes a r S U) (λ S z. absurd (omega (arith, v .0))) (λ S z d. absurd (d v))
+      (λ S v. left-heap a r (release (m - 16) (heapIn a r)) Done L (release-ends m S v))
+
+  pub settle-heap : SoundIn a r → heapLeft (settleCall a r) ≡ heapOf (settle (heapIn a r))
+  settle-heap S = settle-cases a r L (λ x. heapLeft x ≡ heapOf (settle (heapIn a r)))
+      (λ U. no-yes a r S U) (λ S. left-heap a r (settle (heapIn a r)) Done L (settle-ends S))
+
+  -- ---- an opened heap is sound, and what is sound stays sound and of good shape in every call, refused or not
+  pub open-sound : Fit (openCall a r)
+  open-sound = subst Fit (open-called a r L) (left-fit a r (does (opened (length a)) (size 0 (length a) 1 ∷ [])) Done L open-ends)
+
+  same-fit : (x : Answer) → SoundIn a r → Fit (after a r x)
+  same-fit x S = record { lent = L; sound = S }
+
+  pub grant-stays-sound : (n : ℕ) → SoundIn a r → Fit (grantCall a r n)
+  grant-stays-sound n S = grant-cases a r L Fit n
+      (λ g. same-fit (Refused R.Request) S) (λ U. same-fit (Refused R.Unsound) S)
+      (λ l S q. left-fit a r (grant (need n) (heapIn a r)) (Refused R.NoRoom) L (grant-ends n l S))
+      (λ l S c q.
+      left-fit a r (grant (need n) (heapIn a r)) (Granted (c + 16) (usable (sizeOf (heapOf (grant (need n) (heapIn a r))) c))) L (grant-ends n l S))
+
+  pub release-stays-sound : (m : ℕ) → SoundIn a r → Fit (releaseCall a r m)
+  release-stays-sound m S = release-cases a r L Fit m
+      (λ U. same-fit (Refused R.Unsound) S) (λ S z. same-fit Done S) (λ S z d. same-fit (Refused R.NotLive) S)
+      (λ S v. left-fit a r (release (m - 16) (heapIn a r)) Done L (release-ends m S v))
+
+  pub settle-stays-sound : SoundIn a r → Fit (settleCall a r)
+  settle-stays-sound S = settle-cases a r L Fit (λ U. same-fit (Refused R.Unsound) S) (λ S. left-fit a r (settle (heapIn a r)) Done L (settle-ends S))
+
+  -- ---- number 5 leaves the cache lists and the last remainder as they were
+  pub grant-5-keeps : (n : ℕ) → answered (grantCall a r n) ≡ Refused R.NoRoom → CachesKept a r (grantCall a r n)
+  grant-5-keeps n = grant-cases a r L (λ x. answered x ≡ Refused R.NoRoom → CachesKept a r x) n
+      (λ g e. clash (cc)) (λ U e. clash (cc))
+      (λ l S q e.
+      let H = left-heap a r (grant (need n) (heapIn a r)) (Refused R.NoRoom) L (grant-ends n l S) in
+      let T = grant-refused (need n) (need-bounds n .whole) (need-bounds n .least) (heapIn a r) (arenaWords a) (heard S .good) (heard S .mem) q in
+      record { lists = λ k i. ap (λ (g : Heap). stack g k) H ∙ T .lists k i; remainder = ap (λ (g : Heap). g .remainder) H ∙ T .remainder })
+      (λ l S c q e. clash (cc))
+
+  -- ---- no live block's usable bytes change in any call that leaves it live: in a grant and a settle all live blocks are kept, in a release all but its own
+  pub grant-live-bytes-kept : (n c : ℕ) → live? (heapIn a r) c ≡ true → LiveKept a r c (grantCall a r n)
+  grant-live-bytes-kept n c v = grant-cases a r L (LiveKept a r c) n
+      (λ g. same-keeps c (Refused R.Request) v) (λ U. same-keeps c (Refused R.Unsound) v)
+      (λ l S q. left-keeps a r (grant (need n) (heapIn a r)) (Refused R.NoRoom) L (grant-ends n l S) (λ x. Unit {0}) S (gives n S .tame) c tt v)
+      (λ l S d q.
+      left-keeps a r (grant (need n) (heapIn a r)) (Granted (d + 16) (usable (sizeOf (heapOf (grant (need n) (heapIn a r))) d))) L (grant-ends n l S) (λ x. Unit {0}) S
+      (gives n S .tame) c tt v)
+
+  pub release-live-bytes-kept : (m c : ℕ) → (m ≡ c + 16 → ⊥) → live? (heapIn a r) c ≡ true → LiveKept a r c (releaseCall a r m)
+  release-live-bytes-kept m c ne v = release-cases a r L (LiveKept a r c) m
+      (λ U. same-keeps c (Refused R.Unsound) v) (λ S z. same-keeps c Done v) (λ S z d. same-keeps c (Refused R.NotLive) v)
+      (λ S w. left-keeps a r (release (m - 16) (heapIn a r)) Done L (release-ends m S w) (But (m - 16)) S
+      (release-goes (heapIn a r) (arenaWords a) (m - 16) (heard S .good) (heard S .mem) (live-loose (heapIn a r) (m - 16) (w .1)) .tame) c
+      (λ e. ne (omega (arith, w .0))) v)
+
+  pub settle-live-bytes-kept : (c : ℕ) → live? (heapIn a r) c ≡ true → LiveKept a r c (settleCall a r)
+  settle-live-bytes-kept c v = settle-cases a r L (LiveKept a r c)
+      (λ U. same-keeps c (Refused R.Unsound) v)
+      (λ S. left-keeps a r (settle (heapIn a r)) Done L (settle-ends S) (λ x. Unit {0}) S
+      (settle-stays (heapIn a r) (arenaWords a) (heard S .good) (heard S .mem) .tame) c tt v)
+
+  -- ---- a released block is live no more
+  pub released-gone : (m : ℕ) → SoundIn a r → LiveMem a r m → live? (heapLeft (releaseCall a r m)) (m - 16) ≡ false
+  released-gone m S v =
+      let lo = live-loose (heapIn a r) (m - 16) (v .1) in
+      ap (λ (g : Heap). live? g (m - 16)) (release-heap m S v)
+      ∙ not-live (heapOf (release (m - 16) (heapIn a r))) (m - 16) (release-goes (heapIn a r) (arenaWords a) (m - 16) (heard S .good) (heard S .mem) lo .gone)
+
+  -- ---- a granted block is new: it was not live and is, n is at most its usable bytes, and these lie in the arena and overlap no other live block's
+  pub granted-new : (n mem u : ℕ) → answered (grantCall a r n) ≡ Granted mem u → GrantedNew (heapIn a r) (heapLeft (grantCall a r n)) (length a) n mem u
+  granted-new n mem u = grant-cases a r L (λ x. answered x ≡ Granted mem u → GrantedNew (heapIn a r) (heapLeft x) (length a) n mem u) n
+      (λ g e. clash (cc)) (λ U e. clash (cc))
+      (λ l S q e. clash (cc))
+      (λ l S c q e.
+      let s : Ran Got = grant (need n) (heapIn a r) in
+      let z : ℕ = usable (sizeOf (heapOf s) c) in
+      let E = grant-ends n l S in
+      let k = gives n S .given c q in
+      let p : c + 16 ≡ mem = cc in
+      let v : z ≡ u = cc in
+      let len : heapOf s .len ≡ length a = omega (arith, E .mem .long, apply-length (writes s) (arenaWords a), length-arenaWords a, L .even) in
+      subst (λ (g : Heap). GrantedNew (heapIn a r) g (length a) n mem u) (sym (left-heap a r s (Granted (c + 16) z) L E))
+      (subst (λ (j : ℕ). GrantedNew (heapIn a r) (heapOf s) j n mem u) len
+      (subst (λ (j : ℕ). GrantedNew (heapIn a r) (heapOf s) (heapOf s .len) n j u) p
+      (subst (λ (j : ℕ). GrantedNew (heapIn a r) (heapOf s) (heapOf s .len) n (c + 16) j) v
+      (new-block (heapIn a r) (heapOf s) n c (E .now .good) (k .0) (k .1) (k .2))))))

@@ -1,0 +1,127 @@
+-- What a step of a sound heap leaves in the two buffers: bytes of good shape that spell its heap, and the usable bytes of every block that it spares.
+-- Assumes nothing.
+use mathlib.Core.Path.{_≡_, refl, sym, ap, _∙_, subst}
+use mathlib.Core.List.{List, [], _∷_, _++_}
+use mathlib.Core.Bool.{Bool, true}
+use mathlib.Core.Logic.{⊎-elim}
+use Prim.Native.Nat.{ℕ, suc, _+_, _-_, _/_, _%_, _≤_}
+use native.Mathlib.Omega.{arith}
+use lib.Dec.{leb}
+use lib.ListN.{length, getD, length-append, List·getD-append}
+use lib.Seq.{getD-append-add}
+use borrow.Author.Tests.{eq-eqb, le-leb}
+use Rattle.le.specs.Number.{digits, bytes}
+use Rattle.le.specs.Arena.{arenaWords}
+use Rattle.le.specs.NumberLaws.{number-small}
+use Rattle.le.specs.WordsLaws.{length-bytes, getD-words}
+use Rattle.le.specs.ArenaLaws.{length-arenaWords, bytes-arenaWords}
+use Rattle.sizes.specs.Limits.{recordWords}
+use Rattle.machine.specs.Lists.{both, cnt}
+use Rattle.machine.specs.Heap.{Heap, starts, sizeOf, live?, recordOf}
+use Rattle.machine.specs.Writes.{Write, Ran, heapOf, writes, apply}
+use Rattle.machine.specs.Audit.{sound?}
+use Rattle.machine.specs.Calls.{left, shape?, arenaAllowed?, wordsOf, heapIn}
+use Rattle.machine.specs.declared.Answer.{Answer}
+use Rattle.sound.specs.Relation.{Loose, Good, Sound}
+use Rattle.sound.specs.Tiles.{lt-or-le, start}
+use Rattle.sound.specs.Frames.{apply-length}
+use Rattle.sound.specs.Edits.{fits-tiles, size-16}
+use Rattle.sound.specs.RecordOf.{record-words}
+use Rattle.sound.specs.Ends.{Ends}
+use Rattle.sound.specs.Live.{Tame, tame-words, live-loose, loose-live}
+use Rattle.audit.specs.Exact.{audit-complete}
+use Rattle.calls.specs.Ways.{shape-true}
+use Rattle.calls.specs.Through.{came-sound}
+use Rattle.calls.specs.Bytes.{bytes-small}
+use Rattle.calls.specs.Written.{written-sound, written-read}
+use Rattle.calls.specs.Remainder.{Fine}
+use Rattle.calls.specs.Results.{Lent, SoundIn, heapLeft, Fit, LiveKept}
+
+-- ---- equal words have equal bytes
+width : (v : ℕ) → length (digits 8 v) ≡ 8
+unfolding bytes
+width v = omega (arith, length-append (digits 8 v) [], length-bytes 8 (v ∷ []))
+
+bytes-at : (u v : List ℕ) (i : ℕ) → length u ≡ length v → getD u (i / 8) 0 ≡ getD v (i / 8) 0 → getD (bytes 8 u) i 0 ≡ getD (bytes 8 v) i 0
+unfolding bytes
+bytes-at [] [] i l e = refl
+bytes-at [] (y ∷ v) i l e = absurd (omega arith)
+bytes-at (x ∷ u) [] i l e = absurd (omega arith)
+bytes-at (x ∷ u) (y ∷ v) i l e = ⊎-elim
+    (λ k.
+    let z : i / 8 ≡ 0 = omega arith in
+    let q : x ≡ y = subst (λ (j : ℕ). getD (x ∷ u) j 0 ≡ getD (y ∷ v) j 0) z e in
+    List·getD-append (digits 8 x) (bytes 8 u) 0 i (omega (arith, width x)) ∙ ap (λ (n : ℕ). getD (digits 8 n) i 0) q
+    ∙ sym (List·getD-append (digits 8 y) (bytes 8 v) 0 i (omega (arith, width y))))
+    (λ k.
+    let z : i / 8 ≡ suc ((i - 8) / 8) = omega arith in
+    behind x u k ∙ bytes-at u v (i - 8) (omega arith) (subst (λ (j : ℕ). getD (x ∷ u) j 0 ≡ getD (y ∷ v) j 0) z e) ∙ sym (behind y v k))
+    (lt-or-le i 8)
+  where
+    behind : (x : ℕ) (u : List ℕ) → 8 ≤ i → getD (digits 8 x ++ bytes 8 u) i 0 ≡ getD (bytes 8 u) (i - 8) 0
+    behind x u k =
+        let z : i ≡ length (digits 8 x) + (i - 8) = omega (arith, width x) in
+        ap (λ (j : ℕ). getD (digits 8 x ++ bytes 8 u) j 0) z ∙ getD-append-add (digits 8 x) (bytes 8 u) (i - 8) 0
+
+-- ---- good shape
+pub lent-shape : (a r : List ℕ) → Lent a r → (arenaAllowed? (length a) ≡ true) × (shape? a r ≡ true)
+lent-shape a r L = (allowed, shape-true a r (L .long) allowed)
+  where
+    allowed : arenaAllowed? (length a) ≡ true
+    allowed =
+        ap (λ (t : Bool). both t (both (leb 32 (length a)) (leb (length a) 262144))) (eq-eqb (length a % 16) 0 (L .even))
+        ∙ ap (λ (t : Bool). both t (leb (length a) 262144)) (le-leb 32 (length a) (L .least)) ∙ le-leb (length a) 262144 (L .most)
+
+pub lent-sound : (a r : List ℕ) → Lent a r → SoundIn a r → Sound (heapIn a r) (arenaWords a) (wordsOf r)
+lent-sound a r L S = came-sound a r (wordsOf r) (record { long = L .long; allowed = lent-shape a r L .0; small = L .words; words = refl }) S
+
+pub lent-fine : (a r : List ℕ) → Lent a r → SoundIn a r → Fine (heapIn a r)
+lent-fine a r L S = record {
+  good = lent-sound a r L S .good;
+  low = omega (arith, getD-words 4 recordWords r 2 (omega arith), number-small 4 r 8 (L .words));
+}
+
+-- ---- what a step leaves
+pub left-length : (a r : List ℕ) → Lent a r → (ws : List Write) → length (bytes 8 (apply ws (arenaWords a))) ≡ length a
+left-length a r L ws = omega (arith, length-bytes 8 (apply ws (arenaWords a)), apply-length ws (arenaWords a), length-arenaWords a, L .even)
+
+module _ {A : Type 0} (a r : List ℕ) (s : Ran A) (y : Answer) (L : Lent a r) (E : Ends s (arenaWords a) Fine) where
+  pub left-heap : heapLeft (left a (heapOf s) (writes s) y) ≡ heapOf s
+  left-heap = written-read (heapOf s) (E .now .good) (apply (writes s) (arenaWords a)) (E .mem) (E .now .low)
+
+  pub left-fit : Fit (left a (heapOf s) (writes s) y)
+  left-fit =
+      let g : Heap = heapOf s in
+      let G : Good g = E .now .good in
+      let w : List ℕ = apply (writes s) (arenaWords a) in
+      let e : length (bytes 8 w) ≡ length a = left-length a r L (writes s) in
+      record {
+        lent = record {
+          even = ap (λ (n : ℕ). n % 16) e ∙ L .even;
+          least = omega (arith, L .least);
+          most = omega (arith, L .most);
+          long = length-bytes 4 (recordOf g) ∙ omega (arith, record-words g (G .shape .stacked74) (G .shape .binned127) .all);
+          bytes = bytes-small 8 w;
+          words = bytes-small 4 (recordOf g);
+        };
+        sound = ap sound? (audit-complete g (arenaWords (bytes 8 w)) (wordsOf (bytes 4 (recordOf g))) (written-sound g G w (E .mem) (E .now .low)));
+      }
+
+  -- a live block that the step spares
+  pub left-keeps : (X : ℕ → Type 0) → SoundIn a r → Tame X (heapIn a r) s → (c : ℕ) → X c → live? (heapIn a r) c ≡ true → LiveKept a r c (left a (heapOf s) (writes s) y)
+  left-keeps X S t c x v =
+      let h : Heap = heapIn a r in
+      let w : List ℕ = arenaWords a in
+      let G : Good h = lent-sound a r L S .good in
+      let lo : Loose h c = live-loose h c v in
+      let k = t .keeps c x lo in
+      let m : 1 ≤ cnt c (starts h) = omega arith in
+      let st = start (h .tiles) 0 c (fits-tiles h (G .shape)) m in
+      record {
+        live = subst (λ (g : Heap). live? g c ≡ true) (sym left-heap) (loose-live (heapOf s) c (E .now .good .shape) (k .0));
+        size = ap (λ (g : Heap). sizeOf g c) left-heap ∙ k .1;
+        bytes = λ i l u.
+            bytes-at (apply (writes s) w) w i (apply-length (writes s) w)
+            (tame-words X h s w t c x lo (i / 8) (omega (arith, st .even)) (omega (arith, st .even, size-16 h c (G .shape) m)))
+            ∙ ap (λ (b : List ℕ). getD b i 0) (bytes-arenaWords a (omega (arith, L .even)) (L .bytes));
+      }

@@ -1,0 +1,86 @@
+-- The calls on bytes that are lent and sound: none is refused for shape or soundness, so each is its step on the heap that is read. By the audit's
+-- completeness. Assumes nothing.
+use mathlib.Core.Path.{_≡_, ap, _∙_}
+use mathlib.Core.List.{List, [], _∷_}
+use mathlib.Core.Bool.{Bool, true, false}
+use Prim.Native.Nat.{ℕ, _-_, _%_, _≤_, _<_}
+use lib.Dec.{eqb, ltb, leb}
+use lib.ListN.{length}
+use borrow.Author.Tests.{eq-eqb, le-leb, lt-ltb, le-ltb}
+use Rattle.le.specs.Number.{bytes}
+use Rattle.le.specs.Arena.{arenaWords}
+use Rattle.sizes.specs.Limits.{mostRequest}
+use Rattle.sizes.specs.Sizes.{need}
+use Rattle.machine.specs.Lists.{both}
+use Rattle.machine.specs.Heap.{Heap, live?, opened}
+use Rattle.machine.specs.Writes.{size}
+use Rattle.machine.specs.Release.{release, settle}
+use Rattle.machine.specs.Grant.{grant}
+use Rattle.machine.specs.Audit.{sound?, auditOf}
+use Rattle.machine.specs.Calls.{After, after, left, shape?, arenaAllowed?, heapIn, wordsOf, onSound, refused, closedRecord, granted, done, openCall, grantCall, releaseCall, settleCall}
+use Rattle.machine.specs.declared.Refusal.the-variants as R
+use Rattle.machine.specs.declared.Answer.the-variants.{Done, Refused}
+use Rattle.sound.specs.Relation.{Sound}
+use Rattle.audit.specs.Exact.{audit-complete}
+use Rattle.calls.specs.Results.{Lent}
+
+pub lent-shape : (a r : List ℕ) → Lent a r → (eqb (length r) 1572 ≡ true) × (arenaAllowed? (length a) ≡ true)
+lent-shape a r L = (
+  eq-eqb (length r) 1572 (L .long),
+  ap (λ (t : Bool). both t (both (leb 32 (length a)) (leb (length a) 262144))) (eq-eqb (length a % 16) 0 (L .even))
+      ∙ ap (λ (t : Bool). both t (leb (length a) 262144)) (le-leb 32 (length a) (L .least)) ∙ le-leb (length a) 262144 (L .most),
+)
+
+shape-both : (a r : List ℕ) → Lent a r → shape? a r ≡ true
+shape-both a r L = let s = lent-shape a r L in ap (λ (t : Bool). both t (arenaAllowed? (length a))) (s .0) ∙ s .1
+
+if : (t : Bool) (x y : After) → After
+if t x y = elim t [ true ↦ x | false ↦ y ]
+
+pub open-lent : (a r : List ℕ) → Lent a r → openCall a r ≡ left a (opened (length a)) (size 0 (length a) 1 ∷ []) Done
+unfolding openCall if
+open-lent a r L =
+    let s = lent-shape a r L in
+    let x : After = left a (opened (length a)) (size 0 (length a) 1 ∷ []) Done in
+    let y : After = after a (bytes 4 closedRecord) (Refused R.Shape) in
+    ap (λ (t : Bool). if t (if (arenaAllowed? (length a)) x y) (refused a r R.Shape)) (s .0) ∙ ap (λ (t : Bool). if t x y) (s .1)
+
+module _ (a r : List ℕ) (L : Lent a r) (S : Sound (heapIn a r) (arenaWords a) (wordsOf r)) where
+  on-sound : (f : Heap → After) → onSound a r f ≡ f (heapIn a r)
+  unfolding if
+  on-sound f =
+      ap (λ (t : Bool). if t (if (sound? (auditOf (arenaWords a) (wordsOf r))) (f (heapIn a r)) (refused a r R.Unsound)) (refused a r R.Shape)) (shape-both a r L)
+      ∙ ap (λ x. if (sound? x) (f (heapIn a r)) (refused a r R.Unsound)) (audit-complete (heapIn a r) (arenaWords a) (wordsOf r) S)
+
+  pub grant-large : (n : ℕ) → 262144 < n → grantCall a r n ≡ refused a r R.Request
+  unfolding grantCall if
+  grant-large n l =
+      ap (λ (t : Bool). if t (refused a r R.Request) (onSound a r (λ h. granted a (grant (need n) h))))
+      (ap (λ (t : Bool). both t (ltb mostRequest n)) (shape-both a r L) ∙ lt-ltb mostRequest n l)
+
+  pub grant-called : (n : ℕ) → n ≤ 262144 → grantCall a r n ≡ granted a (grant (need n) (heapIn a r))
+  unfolding grantCall if
+  grant-called n l =
+      ap (λ (t : Bool). if t (refused a r R.Request) (onSound a r (λ h. granted a (grant (need n) h))))
+      (ap (λ (t : Bool). both t (ltb mostRequest n)) (shape-both a r L) ∙ le-ltb mostRequest n l)
+      ∙ on-sound (λ h. granted a (grant (need n) h))
+
+  pub release-called : (m : ℕ) → releaseCall a r m ≡ elim (eqb m 0) [
+    | true ↦ after a r Done
+    | false ↦ elim (both (leb 16 m) (live? (heapIn a r) (m - 16))) [
+      | true ↦ done a (release (m - 16) (heapIn a r))
+      | false ↦ refused a r R.NotLive
+    ]
+  ]
+  unfolding releaseCall
+  release-called m = on-sound (λ h. elim (eqb m 0) [
+    | true ↦ after a r Done
+    | false ↦ elim (both (leb 16 m) (live? h (m - 16))) [
+      | true ↦ done a (release (m - 16) h)
+      | false ↦ refused a r R.NotLive
+    ]
+  ])
+
+  pub settle-called : settleCall a r ≡ done a (settle (heapIn a r))
+  unfolding settleCall
+  settle-called = on-sound (λ h. done a (settle h))

@@ -1,0 +1,90 @@
+-- Demand 3, stated of offsets and bytes: what is free after a settle, which blocks are live, what an emptied heap is, and all of it of a run (Demand).
+-- Definitions only; that it holds of every run stands in Theorem.
+use mathlib.Core.Path.{_≡_}
+use mathlib.Core.List.{List, [], _∷_, _++_}
+use mathlib.Core.Bool.{Bool, false}
+use mathlib.Core.Logic.{_⊎_}
+use Prim.Native.Nat.{ℕ, _+_, _-_, _≤_, _<_}
+use lib.Dec.{eqb}
+use lib.ListN.{length}
+use Rattle.le.specs.Number.{number}
+use Rattle.machine.specs.Lists.{either}
+use Rattle.machine.specs.Heap.{binned, live?}
+use Rattle.machine.specs.Calls.{heapIn, answerNumbers}
+use Rattle.machine.specs.declared.Answer.{Answer}
+use Rattle.machine.specs.declared.Answer.the-variants.{Done}
+use Rattle.calls.specs.Results.{Lent}
+use Rattle.history.specs.Histories.{Event, Settle, Block, State, state, recordIn, blocksIn, run, answerTo, answers, begin}
+
+-- offset x lies in the chunk of the block b: its header and all its usable bytes but the last eight, which are the next chunk's previous size
+abbrev pub In : Block → ℕ → Type 0
+In b x = (b .mem ≤ x + 16) × (x + 8 < b .mem + b .usable)
+
+-- x lies in the chunk of a held block
+pub data Held : List Block → ℕ → Type 0 where
+  here : {b : Block} {bs : List Block} {x : ℕ} → In b x → Held (b ∷ bs) x
+  there : {b : Block} {bs : List Block} {x : ℕ} → Held bs x → Held (b ∷ bs) x
+
+-- an unbroken stretch of an arena of n bytes outside the held blocks: the offsets from f on and below e, at least one; it begins at the arena's start or
+-- behind a held block, and ends at the arena's end or before one
+pub record Stretch (bs : List Block) (n f e : ℕ) : Type 0 where
+  pub some : f < e
+  pub inside : e ≤ n
+  pub clear : (y : ℕ) → f ≤ y → y < e → Held bs y → ⊥
+  pub starts : (f ≡ 0) ⊎ ((1 ≤ f) × Held bs (f - 1))
+  pub ends : (e ≡ n) ⊎ Held bs e
+
+-- the stretch that x lies in
+pub record Around (bs : List Block) (n x : ℕ) : Type 0 where
+  pub from : ℕ
+  pub to : ℕ
+  pub low : from ≤ x
+  pub high : x < to
+  pub stretch : Stretch bs n from to
+
+-- at f stands a free chunk of s bytes: its size word has that size, and it stands in the bins, once, and does not reach the end, or it is the record's top,
+-- and does
+pub record Free (a r : List ℕ) (f s : ℕ) : Type 0 where
+  pub size : number 8 a (f + 8) ≡ s + 1
+  pub kind : ((binned (heapIn a r) f ≡ 1) × (f + s < length a)) ⊎ ((number 4 r 4 ≡ f) × (f + s ≡ length a))
+
+-- nothing is cut up: every byte outside the held blocks' chunks lies in a stretch, every stretch is one free chunk, and the last of them is the top
+pub record Mended (a r : List ℕ) (bs : List Block) : Type 0 where
+  pub all : (x : ℕ) → x < length a → (Held bs x → ⊥) → Around bs (length a) x
+  pub each : (f e : ℕ) → Stretch bs (length a) f e → Free a r f (e - f)
+  pub last : Stretch bs (length a) (number 4 r 4) (length a)
+
+abbrev pub MendedAt : State → Type 0
+MendedAt (state a r bs) = Mended a r bs
+
+-- a block at mem m is held
+abbrev pub held? : List Block → ℕ → Bool
+held? [] m = false
+held? (b ∷ bs) m = either (eqb m (b .mem)) (held? bs m)
+
+-- the live blocks, as the bytes tell them, are those held, as the history tells it
+abbrev pub LiveAt : State → Type 0
+LiveAt (state a r bs) = (c : ℕ) → live? (heapIn a r) c ≡ held? bs (c + 16)
+
+-- ---- an answer that is neither number 1, a bad shape, nor number 3, an unsound heap
+pub record Fair (x : Answer) : Type 0 where
+  pub shape : answerNumbers x .no ≡ 1 → ⊥
+  pub sound : answerNumbers x .no ≡ 3 → ⊥
+
+abbrev pub AllFair : List Answer → Type 0
+AllFair [] = Unit {0}
+AllFair (x ∷ xs) = Fair x × AllFair xs
+
+-- ---- a state has the record of a newly opened arena of n bytes, and is answered as any such arena is, whatever bytes it holds
+pub record New (n : ℕ) (s : State) : Type 0 where
+  pub rec : (a r : List ℕ) → Lent a r → length a ≡ n → recordIn s ≡ recordIn (begin a r)
+  pub told : (a r : List ℕ) → Lent a r → length a ≡ n → (es : List Event) → answers es s ≡ answers es (begin a r)
+
+-- ---- demand 3 of a run of es on newly opened bytes a and r: no call is refused for shape or soundness, the live blocks are those granted and not yet
+-- released, and a settle at its end is not refused, leaves nothing cut up, and, where no block is held, a new heap
+pub record Demand (a r : List ℕ) (es : List Event) : Type 0 where
+  pub fair : AllFair (answers es (begin a r))
+  pub live : LiveAt (run es (begin a r))
+  pub settles : answerTo Settle (run es (begin a r)) ≡ Done ∷ []
+  pub mended : MendedAt (run (es ++ Settle ∷ []) (begin a r))
+  pub emptied : blocksIn (run (es ++ Settle ∷ []) (begin a r)) ≡ [] → New (length a) (run (es ++ Settle ∷ []) (begin a r))

@@ -1,0 +1,74 @@
+-- An arena keeps its length in every run: no call writes outside it, and none makes it shorter. Assumes nothing.
+use mathlib.Core.Path.{_≡_, refl, ap, _∙_}
+use mathlib.Core.List.{List, [], _∷_}
+use mathlib.Core.Bool.{Bool, true, false}
+use mathlib.Core.Logic.{⊎-elim}
+use Prim.Native.Nat.{ℕ, _-_, _%_}
+use lib.Dec.{eqb, leb}
+use lib.ListN.{length, set, length-set}
+use Rattle.sizes.specs.Sizes.{need}
+use Rattle.machine.specs.Lists.{both}
+use Rattle.machine.specs.Heap.{live?}
+use Rattle.machine.specs.Writes.{Ran, ran, size}
+use Rattle.machine.specs.Release.{release, settle}
+use Rattle.machine.specs.Grant.{grant}
+use Rattle.machine.specs.Calls as C
+use Rattle.machine.specs.declared.{Got.Got, Got.the-variants.At, Got.the-variants.Nothing}
+use Rattle.machine.specs.declared.Answer.the-variants.{Done}
+use Rattle.machine.specs.declared.Refusal.the-variants as N
+use Rattle.sound.specs.Tiles.{lt-or-le}
+use Rattle.history.specs.Histories.{Event, Grant, Release, Settle, Store, Block, holds?, State, state, arenaIn, granted, released, settled, next, run, begin}
+use Rattle.calls.specs.Results.{Lent}
+use Rattle.history.specs.Ready.{Ready, ReadyAt, left-length}
+use Rattle.history.specs.Called.{open-lent, grant-large, grant-called, release-called, settle-called}
+use Rattle.history.specs.Runs.{next-ready}
+
+module _ (a r : List ℕ) (bs : List Block) (R : Ready a r bs) where
+  granted-length : (x : Ran Got) → length (arenaIn (granted bs (C.granted a x))) ≡ length a
+  granted-length (ran g ws (At c)) = left-length a r (R .lent) ws
+  granted-length (ran g ws Nothing) = left-length a r (R .lent) ws
+
+  grant-length : (n : ℕ) → length (arenaIn (granted bs (C.grantCall a r n))) ≡ length a
+  grant-length n = ⊎-elim
+      (λ l. ap (λ (x : C.After). length (arenaIn (granted bs x))) (grant-large a r (R .lent) (R .sound) n l))
+      (λ l. ap (λ (x : C.After). length (arenaIn (granted bs x))) (grant-called a r (R .lent) (R .sound) n l) ∙ granted-length (grant (need n) (C.heapIn a r)))
+      (lt-or-le 262144 n)
+
+  released-length : {A : Type 0} (m : ℕ) (x : Ran A) → length (arenaIn (released m bs (C.done a x))) ≡ length a
+  released-length m (ran g ws y) = left-length a r (R .lent) ws
+
+  release-length : (m : ℕ) → length (arenaIn (released m bs (C.releaseCall a r m))) ≡ length a
+  release-length m = ap (λ (x : C.After). length (arenaIn (released m bs x))) (release-called a r (R .lent) (R .sound) m)
+      ∙ null (eqb m 0) (both (leb 16 m) (live? (C.heapIn a r) (m - 16)))
+    where
+      null : (t u : Bool) → length (arenaIn (released m bs (elim t [
+        | true ↦ C.after a r Done
+        | false ↦ elim u [ true ↦ C.done a (release (m - 16) (C.heapIn a r)) | false ↦ C.refused a r N.NotLive ]
+      ]))) ≡ length a
+      null true u = refl
+      null false true = released-length m (release (m - 16) (C.heapIn a r))
+      null false false = refl
+
+  settled-length : {A : Type 0} (x : Ran A) → length (arenaIn (settled bs (C.done a x))) ≡ length a
+  settled-length (ran g ws y) = left-length a r (R .lent) ws
+
+  store-length : (p v : ℕ) (t : Bool) → length (arenaIn (elim t [ true ↦ state (set a p (v % 256)) r bs | false ↦ state a r bs ])) ≡ length a
+  store-length p v true = length-set a p (v % 256)
+  store-length p v false = refl
+
+next-length : (e : Event) (s : State) → ReadyAt s → length (arenaIn (next e s)) ≡ length (arenaIn s)
+unfolding next
+next-length (Grant n) (state a r bs) R = grant-length a r bs R n
+next-length (Release m) (state a r bs) R = release-length a r bs R m
+next-length Settle (state a r bs) R =
+    ap (λ (x : C.After). length (arenaIn (settled bs x))) (settle-called a r (R .lent) (R .sound)) ∙ settled-length a r bs R (settle (C.heapIn a r))
+next-length (Store p v) (state a r bs) R = store-length a r bs R p v (holds? bs p)
+
+pub run-length : (es : List Event) (s : State) → ReadyAt s → length (arenaIn (run es s)) ≡ length (arenaIn s)
+unfolding run
+run-length [] s R = refl
+run-length (e ∷ es) s R = run-length es (next e s) (next-ready e s R) ∙ next-length e s R
+
+pub begin-length : (a r : List ℕ) → Lent a r → length (arenaIn (begin a r)) ≡ length a
+unfolding begin
+begin-length a r L = ap (λ (x : C.After). length (arenaIn (settled [] x))) (open-lent a r L) ∙ left-length a r L (size 0 (length a) 1 ∷ [])

@@ -1,0 +1,17 @@
+pub mod Histories
+pub mod Demand3
+pub mod Ready
+pub mod Called
+pub mod Stores
+pub mod Runs
+pub mod Sure
+pub mod Stretches
+pub mod Mending
+pub mod Settles
+pub mod Alike
+pub mod Lengths
+pub mod Emptied
+pub mod Theorem
+pub mod Sample
+pub mod Spared
+pub mod Performed

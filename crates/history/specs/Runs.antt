@@ -1,0 +1,163 @@
+-- Every event of a run leaves what it found: lent bytes, a sound heap, and blocks held that are its live chunks. The counts of each step say which block
+-- comes or goes. Assumes nothing.
+use mathlib.Core.Path.{_≡_, refl, sym, ap, _∙_, subst}
+use mathlib.Core.List.{List, [], _∷_}
+use mathlib.Core.Bool.{Bool, true, false}
+use mathlib.Core.Logic.{⊎-elim}
+use Prim.Native.Nat.{ℕ, _+_, _-_, _%_, _≤_}
+use native.Mathlib.Omega.{arith}
+use lib.Dec.{eqb, leb}
+use lib.ListN.{length, set}
+use borrow.Author.Tests.{eqb-true, leb-true}
+use Rattle.le.specs.Arena.{arenaWords}
+use Rattle.le.specs.ArenaLaws.{length-arenaWords}
+use Rattle.sizes.specs.Sizes.{need, usable}
+use Rattle.sizes.specs.SizesLaws.{need-bounds}
+use Rattle.machine.specs.Lists.{both, ind}
+use Rattle.machine.specs.Count.{ind-same, ind-other}
+use Rattle.machine.specs.Heap.{sizeOf, live?, opened}
+use Rattle.machine.specs.Writes.{Ran, ran, heapOf, size}
+use Rattle.machine.specs.Release.{release, settle}
+use Rattle.machine.specs.Grant.{grant}
+use Rattle.machine.specs.Calls as C
+use Rattle.machine.specs.declared.{Got.Got, Got.the-variants.At, Got.the-variants.Nothing}
+use Rattle.machine.specs.declared.Answer.the-variants.{Done}
+use Rattle.machine.specs.declared.Refusal.the-variants as N
+use Rattle.sound.specs.Relation.{Loose, Good}
+use Rattle.sound.specs.Tiles.{lt-or-le}
+use Rattle.sound.specs.Moves.{nil, one, any, Moved}
+use Rattle.sound.specs.Leaves.{Leaves, gave, Found}
+use Rattle.sound.specs.Release.{both-true, release-leaves}
+use Rattle.sound.specs.Settle.{Settled, settle-leaves}
+use Rattle.sound.specs.Grant.{grant-leaves}
+use Rattle.sound.specs.Live.{live-loose}
+use Rattle.sound.specs.Opened.{opened-ends}
+use Rattle.history.specs.Histories.{Event, Grant, Release, Settle, Store, Block, holds?, drop, State, state, granted, released, settled, next, run, begin}
+use Rattle.calls.specs.Results.{Lent}
+use Rattle.history.specs.Ready.{heldAt, Sized, Ready, ReadyAt, held-loose, held-once, sized-keep, ind-chunk, drop-count, drop-none, sized-drop, left-ready, ready-fine}
+use Rattle.calls.specs.Remainder.{Fine, grant-fine, release-fine, settle-fine}
+use Rattle.history.specs.Called.{open-lent, grant-large, grant-called, release-called, settle-called}
+use Rattle.history.specs.Stores.{store-ready}
+
+-- ---- open
+pub begin-ready : (a r : List ℕ) → Lent a r → ReadyAt (begin a r)
+unfolding begin
+begin-ready a r L =
+    let n : ℕ = length a in
+    let o = opened-ends n (arenaWords a) (L .even) (L .least) (L .most) (omega (arith, length-arenaWords a, L .even)) in
+    subst (λ (x : C.After). ReadyAt (settled [] x)) (sym (open-lent a r L))
+    (left-ready a r L (opened n) (size 0 n 1 ∷ []) [] (record { good = o .0; low = omega arith }) (o .1)
+    (record { low = λ m l. refl; count = λ c. omega (arith, o .0 .shape .own c); sizes = tt }))
+
+-- ---- the steps
+module _ (a r : List ℕ) (bs : List Block) (R : Ready a r bs) where
+  keep : {A : Type 0} (x : Ran A) (i : A → ℕ → ℕ) (o : ℕ → ℕ) (cs : List Block) → Moved (C.heapIn a r) x i o
+      → ((m : ℕ) → 1 ≤ heldAt m cs → (1 ≤ heldAt m bs) × (o (m - 16) ≡ 0)) → Sized (λ c. sizeOf (C.heapIn a r) c) cs → Sized (λ c. sizeOf (heapOf x) c) cs
+  keep x i o cs M e k =
+      sized-keep (λ c. sizeOf (C.heapIn a r) c) (λ c. sizeOf (heapOf x) c) cs
+      (λ m l. M .same (m - 16) (held-loose (C.heapIn a r) bs (R .holds) m (e m l .0) .1) (e m l .1)) k
+
+  grant-left : (b : ℕ) → 32 ≤ b → (x : Ran Got) → Fine (heapOf x) → Leaves (C.heapIn a r) (arenaWords a) x (Found b (C.heapIn a r)) gave nil
+      → ReadyAt (granted bs (C.granted a x))
+  unfolding usable
+  grant-left b b32 (ran g ws (At c)) F l =
+      let e : c + 16 - 16 ≡ c = omega arith in
+      let u : usable (sizeOf g c) + 8 ≡ sizeOf g c = omega (arith, l .now .1) in
+      left-ready a r (R .lent) g ws (record { mem = c + 16; usable = usable (sizeOf g c) } ∷ bs) F (l .mem) (record {
+        low = λ m k. omega (arith, R .holds .low m k, ind-other m (c + 16) (λ q. omega arith));
+        count = λ x. omega (arith, R .holds .count x, l .moved .count x, ind-chunk x c (c + 16) refl);
+        sizes = (u ∙ ap (λ (y : ℕ). sizeOf g y) (sym e), keep (ran g ws (At c)) gave nil bs (l .moved) (λ m k. (k, refl)) (R .holds .sizes));
+      })
+  grant-left b b32 (ran g ws Nothing) F l =
+      left-ready a r (R .lent) g ws bs F (l .mem) (record {
+        low = R .holds .low;
+        count = λ x. omega (arith, R .holds .count x, l .moved .count x);
+        sizes = keep (ran g ws Nothing) gave nil bs (l .moved) (λ m k. (k, refl)) (R .holds .sizes);
+      })
+
+  grant-ready : (n : ℕ) → ReadyAt (granted bs (C.grantCall a r n))
+  grant-ready n = ⊎-elim
+      (λ l. subst (λ (x : C.After). ReadyAt (granted bs x)) (sym (grant-large a r (R .lent) (R .sound) n l)) R)
+      (λ l.
+      let F = need-bounds n in
+      subst (λ (x : C.After). ReadyAt (granted bs x)) (sym (grant-called a r (R .lent) (R .sound) n l))
+      (grant-left (need n) (F .least) (grant (need n) (C.heapIn a r))
+      (grant-fine (need n) (F .whole) (F .least) (F .most l) (C.heapIn a r) (arenaWords a) (ready-fine a r bs R) (R .sound .mem) .now)
+      (grant-leaves (need n) (F .whole) (F .least) (C.heapIn a r) (arenaWords a) (R .sound .good) (R .sound .mem))))
+      (lt-or-le 262144 n)
+
+  -- m is the mem of the chunk c, which goes
+  release-left : {A : Type 0} (c m : ℕ) → m ≡ c + 16 → Loose (C.heapIn a r) c → (x : Ran A) → Fine (heapOf x)
+      → Leaves (C.heapIn a r) (arenaWords a) x (λ y g. Good g) (any nil) (one c) → ReadyAt (released m bs (C.done a x))
+  release-left c m e lo (ran g ws y) F l =
+      let k : 1 ≤ heldAt m bs = omega (arith, R .holds .count c, ap (λ (n : ℕ). heldAt n bs) e, lo) in
+      left-ready a r (R .lent) g ws (drop m bs) F (l .mem) (record {
+        low = λ n j. omega (arith, drop-count m bs k n, R .holds .low n j);
+        count = λ x. omega (arith, drop-count m bs k (x + 16), ind-chunk x c m e, R .holds .count x, l .moved .count x);
+        sizes = keep (ran g ws y) (any nil) (one c) (drop m bs) (l .moved)
+            (λ n j.
+            let d = drop-count m bs k n in
+            let i : 1 ≤ heldAt n bs = omega (arith, d) in
+            let b = held-loose (C.heapIn a r) bs (R .holds) n i in (
+              i,
+              ind-other (n - 16) c (λ q.
+                  let z : n ≡ m = omega (arith, b .0) in
+                  omega (arith, d, j, held-once (C.heapIn a r) bs (R .sound .good) (R .holds) n, ind-eq n m z)),
+            ))
+            (sized-drop (λ c. sizeOf (C.heapIn a r) c) m bs (R .holds .sizes));
+      })
+    where
+      ind-eq : (n m : ℕ) → n ≡ m → ind (eqb n m) ≡ 1
+      ind-eq n m z = ap (λ (y : ℕ). ind (eqb y m)) z ∙ ind-same m
+
+  release-ready : (m : ℕ) → ReadyAt (released m bs (C.releaseCall a r m))
+  release-ready m = subst (λ (x : C.After). ReadyAt (released m bs x)) (sym (release-called a r (R .lent) (R .sound) m)) (null (eqb m 0) refl)
+    where
+      chunk : (t : Bool) → both (leb 16 m) (live? (C.heapIn a r) (m - 16)) ≡ t
+          → ReadyAt (released m bs (elim t [ true ↦ C.done a (release (m - 16) (C.heapIn a r)) | false ↦ C.refused a r N.NotLive ]))
+      chunk true e =
+          let b = both-true (leb 16 m) (live? (C.heapIn a r) (m - 16)) e in
+          let lo : Loose (C.heapIn a r) (m - 16) = live-loose (C.heapIn a r) (m - 16) (b .1) in
+          release-left (m - 16) m (omega (arith, leb-true 16 m (b .0))) lo (release (m - 16) (C.heapIn a r))
+          (release-fine (m - 16) (C.heapIn a r) (arenaWords a) (ready-fine a r bs R) (R .sound .mem) lo .now)
+          (release-leaves (C.heapIn a r) (arenaWords a) (m - 16) (R .sound .good) (R .sound .mem) lo)
+      chunk false e = R
+
+      null : (t : Bool) → eqb m 0 ≡ t → ReadyAt (released m bs (elim t [
+        | true ↦ C.after a r Done
+        | false ↦ elim (both (leb 16 m) (live? (C.heapIn a r) (m - 16))) [ true ↦ C.done a (release (m - 16) (C.heapIn a r)) | false ↦ C.refused a r N.NotLive ]
+      ]))
+      null true e =
+          let z : heldAt m bs ≡ 0 = R .holds .low m (omega (arith, eqb-true m 0 e)) in
+          subst (λ (l : List Block). Ready a r l) (sym (drop-none m bs z)) R
+      null false e = chunk (both (leb 16 m) (live? (C.heapIn a r) (m - 16))) refl
+
+  settle-left : {A : Type 0} (x : Ran A) → Fine (heapOf x) → Leaves (C.heapIn a r) (arenaWords a) x (λ y g. Settled g) (any nil) nil → ReadyAt (settled bs (C.done a x))
+  settle-left (ran g ws y) F l =
+      left-ready a r (R .lent) g ws bs F (l .mem) (record {
+        low = R .holds .low;
+        count = λ x. omega (arith, R .holds .count x, l .moved .count x);
+        sizes = keep (ran g ws y) (any nil) nil bs (l .moved) (λ m k. (k, refl)) (R .holds .sizes);
+      })
+
+  settle-ready : ReadyAt (settled bs (C.settleCall a r))
+  settle-ready = subst (λ (x : C.After). ReadyAt (settled bs x)) (sym (settle-called a r (R .lent) (R .sound)))
+      (settle-left (settle (C.heapIn a r)) (settle-fine (C.heapIn a r) (arenaWords a) (ready-fine a r bs R) (R .sound .mem) .now)
+      (settle-leaves (C.heapIn a r) (arenaWords a) (R .sound .good) (R .sound .mem)))
+
+  write-ready : (p v : ℕ) (t : Bool) → holds? bs p ≡ t → ReadyAt (elim t [ true ↦ state (set a p (v % 256)) r bs | false ↦ state a r bs ])
+  write-ready p v true e = store-ready a r bs R p v e
+  write-ready p v false e = R
+
+-- ---- an event, and a run
+pub next-ready : (e : Event) (s : State) → ReadyAt s → ReadyAt (next e s)
+unfolding next
+next-ready (Grant n) (state a r bs) R = grant-ready a r bs R n
+next-ready (Release m) (state a r bs) R = release-ready a r bs R m
+next-ready Settle (state a r bs) R = settle-ready a r bs R
+next-ready (Store p v) (state a r bs) R = write-ready a r bs R p v (holds? bs p) refl
+
+pub run-ready : (es : List Event) (s : State) → ReadyAt s → ReadyAt (run es s)
+unfolding run
+run-ready [] s R = R
+run-ready (e ∷ es) s R = run-ready es (next e s) (next-ready e s R)

@@ -1,0 +1,137 @@
+-- In a run no call is refused for shape or soundness, a settle never, and a release exactly of what is not held: the live blocks are those granted and not
+-- yet released. Read off what holds between events. Assumes nothing.
+use mathlib.Core.Path.{_≡_, refl, sym, ap, _∙_, subst}
+use mathlib.Core.List.{List, [], _∷_, _++_}
+use mathlib.Core.Bool.{Bool, true, false}
+use mathlib.Core.Logic.{⊎-elim}
+use Prim.Native.Nat.{ℕ, _+_, _-_, _≤_}
+use native.Mathlib.Omega.{arith}
+use lib.Dec.{eqb, leb, ltb}
+use borrow.Author.Tests.{lt-ltb, ne-eqb, leb-true, leb-false}
+use Rattle.sizes.specs.Sizes.{need}
+use Rattle.machine.specs.Lists.{both, either, ind, cnt}
+use Rattle.machine.specs.Heap.{Heap, starts, live?, total}
+use Rattle.machine.specs.Writes.{Ran, ran}
+use Rattle.machine.specs.Release.{release, settle}
+use Rattle.machine.specs.Grant.{grant}
+use Rattle.machine.specs.Calls as C
+use Rattle.machine.specs.declared.{Got.Got, Got.the-variants.At, Got.the-variants.Nothing, Answer.Answer}
+use Rattle.machine.specs.declared.Answer.the-variants.{Done, Refused}
+use Rattle.machine.specs.declared.Refusal.the-variants as N
+use Rattle.sound.specs.Tiles.{lt-or-le, zero-or}
+use Rattle.sound.specs.Live.{loose-live}
+use Rattle.history.specs.Histories.{Event, Grant, Release, Settle, Store, Block, State, state, answerOf, answerTo, answers, next, run, begin}
+use Rattle.calls.specs.Results.{Lent}
+use Rattle.history.specs.Demand3.{held?, LiveAt, Fair, AllFair}
+use Rattle.history.specs.Ready.{heldAt, Ready, ReadyAt}
+use Rattle.history.specs.Called.{grant-large, grant-called, release-called, settle-called}
+use Rattle.history.specs.Runs.{begin-ready, next-ready, run-ready}
+
+-- ---- live is held
+held-none : (bs : List Block) (m : ℕ) → heldAt m bs ≡ 0 → held? bs m ≡ false
+held-none [] m e = refl
+held-none (b ∷ bs) m e = go (eqb m (b .mem)) refl (λ k. held-none bs m k)
+  where
+    go : (t : Bool) → eqb m (b .mem) ≡ t → (heldAt m bs ≡ 0 → held? bs m ≡ false) → either t (held? bs m) ≡ false
+    go true q f = absurd (omega (arith, ap ind q))
+    go false q f = f (omega arith)
+
+held-some : (bs : List Block) (m : ℕ) → 1 ≤ heldAt m bs → held? bs m ≡ true
+held-some [] m e = absurd (omega (arith, e))
+held-some (b ∷ bs) m e = go (eqb m (b .mem)) refl (λ k. held-some bs m k)
+  where
+    go : (t : Bool) → eqb m (b .mem) ≡ t → (1 ≤ heldAt m bs → held? bs m ≡ true) → either t (held? bs m) ≡ true
+    go true q f = refl
+    go false q f = f (omega (arith, ap ind q))
+
+not-live : (h : Heap) (c : ℕ) → cnt c (starts h) ≡ total c h → live? h c ≡ false
+not-live h c e = ⊎-elim
+    (λ z. ap (λ (n : ℕ). both (ltb 0 n) (eqb (total c h) 0)) (e ∙ z))
+    (λ z. ap (λ (t : Bool). both t (eqb (total c h) 0)) (lt-ltb 0 (cnt c (starts h)) (omega arith)) ∙ ne-eqb (total c h) 0 (λ q. omega arith))
+    (zero-or (total c h))
+
+pub ready-live : (s : State) → ReadyAt s → LiveAt s
+ready-live (state a r bs) R = λ c. ⊎-elim
+    (λ z. not-live (C.heapIn a r) c (omega (arith, R .holds .count c)) ∙ sym (held-none bs (c + 16) z))
+    (λ z. loose-live (C.heapIn a r) c (R .sound .good .shape) (omega (arith, R .holds .count c)) ∙ sym (held-some bs (c + 16) z))
+    (zero-or (heldAt (c + 16) bs))
+
+pub run-live : (a r : List ℕ) → Lent a r → (es : List Event) → LiveAt (run es (begin a r))
+run-live a r L es = ready-live (run es (begin a r)) (run-ready es (begin a r) (begin-ready a r L))
+
+-- ---- no answer has number 1 or number 3
+fair-got : (a : List ℕ) (x : Ran Got) → Fair (answerOf (C.granted a x))
+fair-got a (ran g ws (At c)) = record { shape = λ e. omega arith; sound = λ e. omega arith }
+fair-got a (ran g ws Nothing) = record { shape = λ e. omega arith; sound = λ e. omega arith }
+
+pub done-answer : {A : Type 0} (a : List ℕ) (x : Ran A) → answerOf (C.done a x) ≡ Done
+done-answer a (ran g ws y) = refl
+
+pub settle-done : (s : State) → ReadyAt s → answerTo Settle s ≡ Done ∷ []
+settle-done (state a r bs) R = ap (λ (x : C.After). answerOf x ∷ []) (settle-called a r (R .lent) (R .sound)) ∙ ap (λ (x : Answer). x ∷ []) (done-answer a (settle (C.heapIn a r)))
+
+-- a release answers by what is held
+abbrev pub releaseAnswer : List Block → ℕ → Answer
+releaseAnswer bs m = elim (either (eqb m 0) (held? bs m)) [ true ↦ Done | false ↦ Refused N.NotLive ]
+
+pub release-answered : (a r : List ℕ) (bs : List Block) → Ready a r bs → (m : ℕ) → answerOf (C.releaseCall a r m) ≡ releaseAnswer bs m
+release-answered a r bs R m = ap answerOf (release-called a r (R .lent) (R .sound) m) ∙ null (eqb m 0) refl
+  where
+    chunk : (t : Bool) → leb 16 m ≡ t
+        → answerOf (elim (both t (live? (C.heapIn a r) (m - 16))) [ true ↦ C.done a (release (m - 16) (C.heapIn a r)) | false ↦ C.refused a r N.NotLive ])
+        ≡ elim (held? bs m) [ true ↦ Done | false ↦ Refused N.NotLive ]
+    chunk true e = live (live? (C.heapIn a r) (m - 16)) refl
+      where
+        at : held? bs m ≡ live? (C.heapIn a r) (m - 16)
+        at =
+            let q : m - 16 + 16 ≡ m = omega (arith, leb-true 16 m e) in
+            ap (held? bs) (sym q) ∙ sym (ready-live (state a r bs) R (m - 16))
+
+        live : (t : Bool) → live? (C.heapIn a r) (m - 16) ≡ t
+            → answerOf (elim t [ true ↦ C.done a (release (m - 16) (C.heapIn a r)) | false ↦ C.refused a r N.NotLive ])
+            ≡ elim (held? bs m) [ true ↦ Done | false ↦ Refused N.NotLive ]
+        live true q = done-answer a (release (m - 16) (C.heapIn a r)) ∙ sym (ap (λ (t : Bool). elim t [ true ↦ Done | false ↦ Refused N.NotLive ]) (at ∙ q))
+        live false q = sym (ap (λ (t : Bool). elim t [ true ↦ Done | false ↦ Refused N.NotLive ]) (at ∙ q))
+    chunk false e = sym (ap (λ (t : Bool). elim t [ true ↦ Done | false ↦ Refused N.NotLive ]) (held-none bs m (R .holds .low m (leb-false 16 m e))))
+
+    null : (t : Bool) → eqb m 0 ≡ t → answerOf (elim t [
+      | true ↦ C.after a r Done
+      | false ↦ elim (both (leb 16 m) (live? (C.heapIn a r) (m - 16))) [ true ↦ C.done a (release (m - 16) (C.heapIn a r)) | false ↦ C.refused a r N.NotLive ]
+    ]) ≡ elim (either t (held? bs m)) [ true ↦ Done | false ↦ Refused N.NotLive ]
+    null true e = refl
+    null false e = chunk (leb 16 m) refl
+
+fair-release : (bs : List Block) (m : ℕ) → Fair (releaseAnswer bs m)
+fair-release bs m = go (either (eqb m 0) (held? bs m))
+  where
+    go : (t : Bool) → Fair (elim t [ true ↦ Done | false ↦ Refused N.NotLive ])
+    go true = record { shape = λ e. omega arith; sound = λ e. omega arith }
+    go false = record { shape = λ e. omega arith; sound = λ e. omega arith }
+
+pub next-fair : (e : Event) (s : State) → ReadyAt s → AllFair (answerTo e s)
+next-fair (Grant n) (state a r bs) R = (
+  ⊎-elim
+      (λ l. subst (λ (x : C.After). Fair (answerOf x)) (sym (grant-large a r (R .lent) (R .sound) n l)) (record { shape = λ e. omega arith; sound = λ e. omega arith }))
+      (λ l. subst (λ (x : C.After). Fair (answerOf x)) (sym (grant-called a r (R .lent) (R .sound) n l)) (fair-got a (grant (need n) (C.heapIn a r))))
+      (lt-or-le 262144 n),
+  tt,
+)
+next-fair (Release m) (state a r bs) R = (subst Fair (sym (release-answered a r bs R m)) (fair-release bs m), tt)
+next-fair Settle (state a r bs) R = subst AllFair (sym (settle-done (state a r bs) R)) (record { shape = λ e. omega arith; sound = λ e. omega arith }, tt)
+next-fair (Store p v) (state a r bs) R = tt
+
+fair-append : (xs ys : List Answer) → AllFair xs → AllFair ys → AllFair (xs ++ ys)
+fair-append [] ys p q = q
+fair-append (x ∷ xs) ys p q = (p .0, fair-append xs ys (p .1) q)
+
+answers-fair : (es : List Event) (s : State) → ReadyAt s → AllFair (answers es s)
+unfolding answers
+answers-fair [] s R = tt
+answers-fair (e ∷ es) s R = fair-append (answerTo e s) (answers es (next e s)) (next-fair e s R) (answers-fair es (next e s) (next-ready e s R))
+
+-- ---- in every run
+pub run-fair : (a r : List ℕ) → Lent a r → (es : List Event) → AllFair (answers es (begin a r))
+run-fair a r L es = answers-fair es (begin a r) (begin-ready a r L)
+
+pub run-settles : (a r : List ℕ) → Lent a r → (es : List Event) → answerTo Settle (run es (begin a r)) ≡ Done ∷ []
+run-settles a r L es = settle-done (run es (begin a r)) (run-ready es (begin a r) (begin-ready a r L))
