@@ -31,7 +31,7 @@ use Rattle.fields.specs.Follow.{Ok, Has, Gave, Does}
 use Rattle.fields.specs.FollowLaws.{gave-ok}
 use Rattle.prims.specs.Chunks.{Chunks, up-hd}
 use Rattle.prims.specs.Stacks.{ok-stack, ok-cacheHead, ok-cacheCount, ok-fastHead}
-use Rattle.joins.specs.Reach.{Reach, Way, more-nil, then-more, way-here, reach-then, reach-end}
+use Rattle.fields.specs.Reach.{Reach, Way, more-nil, then-more, way-here, reach-then, reach-end}
 
 -- ---- a stack has a chunk or none, as its head in the record says
 list-none : (w l : List ℕ) → Chunks w l → hd none32 l ≡ none32 → l ≡ []

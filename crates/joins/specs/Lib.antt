@@ -2,7 +2,6 @@ pub mod Reads
 pub mod States
 pub mod Parts
 pub mod Join
-pub mod Reach
 pub mod Release
 pub mod Drain
 pub mod Settle

@@ -2,7 +2,7 @@
 -- for each answer of a turn. Assumes nothing.
 use mathlib.Core.Path.{_≡_, refl, sym, ap, _∙_, subst}
 use mathlib.Core.Bool.{Bool, true, false}
-use mathlib.Core.List.{List, [], _∷_, _++_, append-assoc}
+use mathlib.Core.List.{List, [], _∷_, _++_}
 use mathlib.Core.Logic.{_⊎_, ⊎-elim}
 use Prim.Native.Nat.{ℕ, zero, suc, _+_, _-_, _%_, _≤_, _<_}
 use native.Mathlib.Omega.{arith}
@@ -32,6 +32,7 @@ use Rattle.sound.specs.Small.{some-has}
 use Rattle.sound.specs.Sweep.{Turned, turn-leaves}
 use Rattle.fields.specs.Follow.{Ok, answer, Gave, Does}
 use Rattle.fields.specs.FollowLaws.{gave-by, gave-giving, gave-none, gave-ok}
+use Rattle.fields.specs.Reach.{more-more}
 use Rattle.prims.specs.Stacks.{ok-head}
 use Rattle.sweep.specs.Newcomer.{ahead, ahead-first}
 use Rattle.sweep.specs.Turns.{turn-empty}
@@ -167,9 +168,6 @@ Sweeping b left got w₀ r₀ w r = (h₀ : Heap) → Ok h₀ w₀ r₀ → Good
 
 more-none : (s : Ran Got) → s ≡ more [] s
 more-none (ran h ws a) = refl
-
-more-more : (ws vs : List Write) (s : Ran Got) → more ws (more vs s) ≡ more (ws ++ vs) s
-more-more ws vs (ran h us a) = ap (λ (l : List Write). ran h l a) (sym (append-assoc ws vs us))
 
 gave-more : (ws : List Write) (s : Ran Got) (g : Got) {w₀ w v q : List ℕ} → w ≡ apply ws w₀ → Gave Got s g w v q → Gave Got (more ws s) g w₀ v q
 gave-more ws (ran h vs a) g {w₀} e m = record { says = m .says; bytes = m .bytes ∙ ap (apply vs) e ∙ sym (apply-append ws vs w₀); rec = m .rec }

@@ -27,7 +27,7 @@ use Rattle.sound.specs.Release.{stackSize-cache, stackSize-fast}
 use Rattle.fields.specs.Follow.{Ok, Has, Gave, Does}
 use Rattle.fields.specs.FollowLaws.{gave-then, gave-ok}
 use Rattle.prims.specs.Stacks.{ok-cacheCount, ok-stack}
-use Rattle.takes.specs.Reach.{Way, more-nil, reach-then, reach-end}
+use Rattle.fields.specs.Reach.{Way, more-nil, reach-then, reach-end}
 use Rattle.takes.specs.Moves.{moveHeads}
 use Rattle.takes.specs.Tests.{at-same, fast-some, fast-empty}
 

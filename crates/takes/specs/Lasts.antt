@@ -42,7 +42,7 @@ use Rattle.prims.specs.Places.{Home, Binned}
 use Rattle.prims.specs.Chunks.{Chunk, Inside, in-bytes, start-chunk, bin-chunk}
 use Rattle.prims.specs.Sizes.{set-p-gave}
 use Rattle.prims.specs.Stacks.{ok-cacheCount}
-use Rattle.takes.specs.Reach.{Way, then-then, then-same, ends-next, reach-then, reach-end}
+use Rattle.fields.specs.Reach.{Way, then-then, then-same, ends-next, reach-then, reach-end}
 use Rattle.takes.specs.Moves.{moveRest, Last}
 use Rattle.takes.specs.Tests.{bin-some, bin-empty}
 use Rattle.takes.specs.Heads.{pushed-length}

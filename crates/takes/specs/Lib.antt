@@ -1,4 +1,3 @@
-pub mod Reach
 pub mod Moves
 pub mod Tests
 pub mod Heads

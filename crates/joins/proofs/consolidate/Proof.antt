@@ -6,7 +6,7 @@ use mathlib.Core.Path.{_≡_, refl, _∙_}
 use lib.ListN.{length}
 use Rattle.le.specs.Arena.{arenaWords}
 use Rattle.machine.specs.Release.{consolidate}
-use Rattle.joins.specs.Reach.{Way, reach-has}
+use Rattle.fields.specs.Reach.{Way, reach-has}
 use Rattle.joins.specs.Drain.{fromFast, consolidate-start, fast-list, fast-end}
 use Rattle.joins.proofs.consolidate.Statement.{statement}
 use Rattle.joins.proofs.consolidate.Tie as tie

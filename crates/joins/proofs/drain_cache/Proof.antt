@@ -9,7 +9,7 @@ use Rattle.machine.specs.Release.{releasePast}
 use Rattle.sound.specs.Leaves.{Cached}
 use Rattle.sound.specs.Release.{releasePast-leaves}
 use Rattle.prims.specs.Stacks.{ok-length}
-use Rattle.joins.specs.Reach.{Way, way-here}
+use Rattle.fields.specs.Reach.{Way, way-here}
 use Rattle.joins.specs.Drain.{drainOf, cache-some, cache-none, popped-has, drain-next, drain-done, cache-less}
 use Rattle.joins.proofs.drain_cache.Statement.{statement}
 use Rattle.joins.proofs.drain_cache.Tie as tie

@@ -8,7 +8,7 @@ use Rattle.machine.specs.Heap.{fastAt}
 use Rattle.machine.specs.Release.{join}
 use Rattle.sound.specs.Release.{Every, join-leaves}
 use Rattle.prims.specs.Stacks.{ok-length}
-use Rattle.joins.specs.Reach.{Way, way-here}
+use Rattle.fields.specs.Reach.{Way, way-here}
 use Rattle.joins.specs.Drain.{left, drainOf, fast-some, fast-none, popped-has, drain-next, drain-done, fast-less}
 use Rattle.joins.proofs.drain_fast.Statement.{statement}
 use Rattle.joins.proofs.drain_fast.Tie as tie

@@ -6,7 +6,7 @@ use mathlib.Core.Path.{_≡_, refl, _∙_}
 use lib.ListN.{length}
 use Rattle.le.specs.Arena.{arenaWords}
 use Rattle.machine.specs.Release.{emptying}
-use Rattle.joins.specs.Reach.{Way, reach-has}
+use Rattle.fields.specs.Reach.{Way, reach-has}
 use Rattle.joins.specs.Drain.{fromCache, emptying-start, cache-list, cache-end}
 use Rattle.joins.proofs.emptying.Statement.{statement}
 use Rattle.joins.proofs.emptying.Tie as tie

@@ -7,7 +7,7 @@ use Rattle.le.specs.Arena.{arenaWords}
 use Rattle.sizes.specs.Limits.{cacheRoom}
 use Rattle.sizes.specs.Layout.{cacheCount}
 use Rattle.prims.specs.Stacks.{ok-length}
-use Rattle.takes.specs.Reach.{Way, way-here}
+use Rattle.fields.specs.Reach.{Way, way-here}
 use Rattle.takes.specs.Moves.{moveRest}
 use Rattle.takes.specs.Lasts.{rest-end, rest-stop, rest-has, rest-push, rest-again, rest-less}
 use borrow.Author.Needs.{needs}
