@@ -4,6 +4,7 @@ use mathlib.Core.Bool.{Bool, true, false}
 use mathlib.Core.List.{List, [], _∷_, _++_}
 use Prim.Native.Nat.{ℕ}
 use lib.ListN.{length, getD, replicate}
+use Rattle.le.specs.Number.{number}
 use Rattle.sizes.specs.Limits.{none64}
 use Rattle.machine.specs.Heap.{cache, fast, bin}
 use Rattle.machine.specs.Writes.{apply}
@@ -143,3 +144,8 @@ joined = G 1112 ∷ G 1112 ∷ G 1112 ∷ G 24 ∷ R 16 ∷ R 2256 ∷ R 1136 �
 join-order : same? (bin (heapAfter (script 8192 joined)) 1 ++ getD (apply (writesAfter (script 8192 joined)) (replicate 1024 0)) 282 0 ∷ []) (0 ∷ none64 ∷ []) ≡ true
 unfolding script joined
 join-order = refl
+
+-- a refused grant leaves what its steps wrote in the arena: the fast chunk at 224 was joined and binned, so P of the chunk behind it is clear
+refused-joins : number 8 (arenaOut (scriptBytes 0 512 (eight ++ G 400 ∷ []))) 264 ≡ 32
+unfolding scriptBytes eight
+refused-joins = refl
