@@ -117,8 +117,8 @@
  *
  * The check walks over all chunks, so a call takes time in proportion to
  * their number and to the arena's length. Give a call of grant, release, settle
- * or audit 24,576 bytes of stack: the most that was measured is 20,477, over
- * 3,000 random heaps, of which 18,688 are marks, one for each 16 bytes of an
+ * or audit 24,576 bytes of stack: the most that was measured is 22,781, over
+ * 3,000 random heaps, of which 20,992 are marks, one for each 16 bytes of an
  * arena in three sizes of array, and 1,572 the record's words. heap_open needs
  * no marks; the most measured is 584. No call is recursive, none takes memory
  * from elsewhere, and none calls back.

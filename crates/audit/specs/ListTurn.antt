@@ -19,7 +19,7 @@ use Rattle.machine.specs.declared.ListKind.{ListKind}
 use Rattle.machine.specs.declared.ListKind.the-variants.{Cache, Fast, Bin}
 use Rattle.machine.specs.declared.Audited.{Audited}
 use Rattle.machine.specs.declared.Audited.the-variants as A
-use Rattle.audit_leaves.specs.Leaves.{unmet, markOf, tailWord}
+use Rattle.audit_leaves.specs.Leaves.{unmet, markOf, tailWord, Empty}
 use Rattle.audit.specs.Tests.{not-sound}
 use Rattle.audit.specs.Lists.{minusAll}
 use Rattle.audit.specs.Spelled.{listsOf, listsOf-length}
@@ -233,6 +233,12 @@ module _ (w r m : List ℕ) (k : ListKind) (i p q n c : ℕ) (o : In w r m k i p
         rest = sym (ap (λ (y : List ℕ). minusAll (minus (o .left) y) (drop (suc i) (listsOf w r))) d) ∙ o .rest;
         bins = λ x. omega (arith, o .bins x, ap (λ (y : List ℕ). binCnt k x y) d, bin-none k x);
       })
+
+-- a list that is empty by its words is left as if its chunks had been gone through
+pub list-empty : (w r m : List ℕ) (i : ℕ) (v : Bool) → i < 200 → Out w r m i → (v ≡ true → Empty r (kindAt i)) → v ≡ true → Out w r m (i + 1)
+list-empty w r m i v h o f y =
+    let e = f y in
+    list-leave w r m (kindAt i) i none64 0 0 (up (getD r (headWord (kindAt i)) 0)) (list-enter w r m i 0 h o) true (e .0) (sym (e .1)) refl
 
 -- ---- all lists are good
 drop-all : (n : ℕ) (ls : List (List ℕ)) → length ls ≡ n → drop n ls ≡ []

@@ -31,17 +31,17 @@ pub fn audit_marks(a: &[u8], r: &[u32], m: &mut [u8]) -> Audited
     flags::flag_fault(a, top, m)
 }
 
-// The marks are cleared no further than eight times what the arena needs.
+// The marks of an arena of 1 KiB or more are cleared no further than eight times what it needs.
 pub fn audit_words(a: &[u8], r: &[u32]) -> Audited
     requires { ⌜ ArenaBytes (now a) × (length (now r) ≡ 393) ⌝ }
     ensures { λ f. ⌜ f ≡ auditOf (arenaWords (now (a .entry))) (now (r .entry)) ⌝ }
 {
-    if a.len() <= 4096 {
-        let mut m = [0u8; 256];
+    if a.len() <= 8192 {
+        let mut m = [0u8; 512];
         return audit_marks(a, r, &mut m);
     }
-    if a.len() <= 32768 {
-        let mut m = [0u8; 2048];
+    if a.len() <= 65536 {
+        let mut m = [0u8; 4096];
         return audit_marks(a, r, &mut m);
     }
     let mut m = [0u8; 16384];

@@ -16,6 +16,10 @@ pub fn list_fault(a: &[u8], r: &[u32], m: &mut [u8]) -> Audited
     let mut fault = Audited::Sound;
     let mut i: u32 = 0;
     'lists: while i < 200 {
+        if audit_leaves::empty(r, i) {
+            i += 1;
+            continue;
+        }
         let k = audit_leaves::kind_at(i);
         let v = audit_leaves::mark(k);
         let mut c = audit_leaves::head(r, k);

@@ -1,7 +1,7 @@
 -- What the audit's single tests speak of: marks, a size word, the places of the record, a chunk in its list. Definitions only.
 use mathlib.Core.Path.{_≡_}
 use mathlib.Core.List.{List}
-use mathlib.Core.Bool.{Bool}
+use mathlib.Core.Bool.{Bool, true}
 use Prim.Native.Nat.{ℕ, _+_, _/_, _%_, _≤_}
 use lib.Dec.{eqb, ltb, leb}
 use lib.ListN.{length, getD}
@@ -10,7 +10,8 @@ use Rattle.sizes.specs.Limits.{none64, leastChunk}
 use Rattle.sizes.specs.Layout.{cacheCount, binLast}
 use Rattle.sizes.specs.SizeWord.{sizeOfWord, lowOfWord}
 use Rattle.machine.specs.Lists.{both}
-use Rattle.machine.specs.View.{sizeAt}
+use Rattle.machine.specs.View.{sizeAt, up, headWord}
+use Rattle.machine.specs.Audit.{mayEnd}
 use Rattle.machine.specs.declared.ListKind.{ListKind}
 use Rattle.machine.specs.declared.ListKind.the-variants.{Cache, Fast, Bin}
 
@@ -32,6 +33,10 @@ abbrev pub tailWord : ListKind → ℕ
 tailWord (Cache k) = cacheCount k
 tailWord (Fast k) = 0
 tailWord (Bin j) = binLast j
+
+-- a list that has no chunk and ends rightly
+abbrev pub Empty : List ℕ → ListKind → Type 0
+Empty r k = (up (getD r (headWord k) 0) ≡ none64) × (mayEnd k r none64 0 ≡ true)
 
 -- c is within the arena and s its size; q is that of the chunk p before it
 pub record Stand (a : List ℕ) (c s p q : ℕ) : Type 0 where

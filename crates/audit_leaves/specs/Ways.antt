@@ -1,19 +1,20 @@
 -- The ways through the tests of a list, over plain lists: what the code has seen on each way decides the machine's test. Assumes nothing.
-use mathlib.Core.Path.{_≡_, refl, sym, ap, _∙_}
+use mathlib.Core.Path.{_≡_, refl, sym, ap, _∙_, subst}
 use mathlib.Core.List.{List}
 use mathlib.Core.Bool.{Bool, true, false}
-use Prim.Native.Nat.{ℕ, _+_, _*_, _≤_, _<_}
+use Prim.Native.Nat.{ℕ, _+_, _-_, _*_, _≤_, _<_}
 use lib.Dec.{eqb, ltb, leb}
 use lib.ListN.{getD}
-use borrow.Author.Tests.{eq-eqb, ne-eqb, lt-ltb, le-ltb}
-use Rattle.sizes.specs.Limits.{none64}
+use borrow.Author.Tests.{eq-eqb, ne-eqb, lt-ltb, le-ltb, eqb-true}
+use Rattle.sizes.specs.Limits.{none64, none32}
 use Rattle.sizes.specs.Sizes.{binOf}
-use Rattle.sizes.specs.Layout.{backWord}
+use Rattle.sizes.specs.Layout.{cacheHead, cacheCount, fastHead, binFirst, binLast, backWord}
 use Rattle.machine.specs.Lists.{either}
-use Rattle.machine.specs.View.{sizeAt, up, headWord}
+use Rattle.machine.specs.View.{sizeAt, up, kindAt, headWord}
 use Rattle.machine.specs.Audit.{fits, mayEnd}
 use Rattle.machine.specs.declared.ListKind.{ListKind}
 use Rattle.machine.specs.declared.ListKind.the-variants.{Cache, Fast, Bin}
+use Rattle.audit_leaves.specs.Leaves.{Empty}
 
 pub word-at : (w : List ℕ) (i j x : ℕ) → i ≡ j → x ≡ getD w i 0 → x ≡ getD w j 0
 word-at w i j x e g = g ∙ ap (λ (n : ℕ). getD w n 0) e
@@ -27,6 +28,28 @@ mayEnd-by k k′ r p n e = ap (λ (z : ListKind). mayEnd z r p n) (sym e)
 
 pub fits-by : (k k′ : ListKind) (w : List ℕ) (p n c : ℕ) → k ≡ k′ → fits k′ w p n c ≡ fits k w p n c
 fits-by k k′ w p n c e = ap (λ (z : ListKind). fits z w p n c) (sym e)
+
+-- ---- a list's number, known: it is empty by its words
+up-none : (v : ℕ) → v ≡ none32 → up v ≡ none64
+up-none v e = rw (eq-eqb v none32 e, up)
+
+pub cache-empty : (r : List ℕ) (i : ℕ) → i < 64 → getD r (cacheHead i) 0 ≡ none32 → eqb (getD r (cacheCount i) 0) 0 ≡ true → Empty r (kindAt i)
+cache-empty r i l h e =
+    let k : kindAt i ≡ Cache i = rw (lt-ltb i 64 l, kindAt) in
+    subst (Empty r) (sym k) (up-none (getD r (cacheHead i) 0) h, e)
+
+pub fast-empty : (r : List ℕ) (i : ℕ) → 64 ≤ i → i < 74 → eqb (getD r (fastHead (i - 64)) 0) none32 ≡ true → Empty r (kindAt i)
+fast-empty r i g l h =
+    let k : kindAt i ≡ Fast (i - 64) = rw (le-ltb i 64 g, kindAt) (rw (lt-ltb i 74 l)) in
+    subst (Empty r) (sym k) (up-none (getD r (fastHead (i - 64)) 0) (eqb-true _ _ h), refl)
+
+pub bin-empty : (r : List ℕ) (i f l : ℕ) → 64 ≤ i → 74 ≤ i → f ≡ binFirst (i - 73) → l ≡ binLast (i - 73)
+    → getD r f 0 ≡ none32 → eqb (getD r l 0) none32 ≡ true → Empty r (kindAt i)
+bin-empty r i f l g g₂ ef el h e =
+    let k : kindAt i ≡ Bin (i - 73) = rw (le-ltb i 64 g, kindAt) (rw (le-ltb i 74 g₂)) in
+    let first : getD r (binFirst (i - 73)) 0 ≡ none32 = ap (λ (n : ℕ). getD r n 0) (sym ef) ∙ h in
+    let last : getD r (binLast (i - 73)) 0 ≡ none32 = ap (λ (n : ℕ). getD r n 0) (sym el) ∙ eqb-true _ _ e in
+    subst (Empty r) (sym k) (up-none (getD r (binFirst (i - 73)) 0) first, eq-eqb (up (getD r (binLast (i - 73)) 0)) none64 (up-none (getD r (binLast (i - 73)) 0) last))
 
 -- ---- a chunk in a bin: o says whether its size belongs, v is its back link
 pub bin-size : (j p c : ℕ) (w : List ℕ) (o : Bool) (s : ℕ) → s ≡ sizeAt w c → o ≡ either (eqb j 1) (eqb (binOf s) j) → o ≡ false → false ≡ fits (Bin j) w p 0 c

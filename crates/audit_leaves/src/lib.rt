@@ -10,6 +10,7 @@ pub use chunk::previous;
 pub use chunk::size_word;
 pub use flags::binned;
 pub use flags::flag_ok;
+pub use lists::empty;
 pub use lists::fits;
 pub use lists::head;
 pub use lists::kind_at;

@@ -45,17 +45,17 @@ fn look_with(a: &[u8], r: &[u32], m: &mut [u8], mem: u64) -> Look
     Look::NotLive
 }
 
-// The marks are cleared no further than eight times what the arena needs.
+// The marks of an arena of 1 KiB or more are cleared no further than eight times what it needs.
 fn look_at(a: &[u8], r: &[u32], mem: u64) -> Look
     requires { ⌜ ArenaBytes (now a) × (length (now r) ≡ 393) ⌝ }
     ensures { λ l. ⌜ l ≡ lookAt (arenaWords (now (a .entry))) (now (r .entry)) mem ⌝ }
 {
-    if a.len() <= 4096 {
-        let mut m = [0u8; 256];
+    if a.len() <= 8192 {
+        let mut m = [0u8; 512];
         return look_with(a, r, &mut m, mem);
     }
-    if a.len() <= 32768 {
-        let mut m = [0u8; 2048];
+    if a.len() <= 65536 {
+        let mut m = [0u8; 4096];
         return look_with(a, r, &mut m, mem);
     }
     let mut m = [0u8; 16384];

@@ -173,10 +173,10 @@ module _ (h : Heap) (w r : List ℕ) (o : Ok h w r) where
       one e = binBy-same v c z (f e) ∙ sym e
 
   pub unlink-gave : (j c z n p at f g : ℕ) (v₁ v q₁ q : List ℕ) → Home h j c z → n ≡ getD w (fwdWord c) 0 → p ≡ getD w (backWord c) 0
-      → at ≡ binFirst unsorted → f ≡ binBy (getD r at 0) c z → g ≡ binBy (getD r (at + 1) 0) c z
+      → at ≡ binFirst unsorted → (p ≡ none64 → f ≡ binBy (getD r at 0) c z) → (p ≡ none64 → g ≡ f) → ((p ≡ none64 → ⊥) → n ≡ none64 → g ≡ binBy (getD r (at + 1) 0) c z)
       → v₁ ≡ linkFwd w p n → q₁ ≡ linkEnd r (binFirst f) p n → v ≡ linkBack v₁ n p → q ≡ linkEnd q₁ (binLast g) n p
       → Gave (Unit {0}) (unlink j c h) tt w v q
-  unlink-gave j c z n p at f g v₁ v q₁ q m en ep ea ef eg e₁ f₁ e f₂ =
+  unlink-gave j c z n p at f g v₁ v q₁ q m en ep ea ef efg eg e₁ f₁ e f₂ =
       let a = around j c (m .here) in
       let xs = pre c (bin h j) in
       let ys = post c (bin h j) in
@@ -187,6 +187,16 @@ module _ (h : Heap) (w r : List ℕ) (o : Ok h w r) where
       let sc : c < none32 = omega (arith, a .here .small) in
       let first : getD r at 0 ≡ hd none32 (bin h unsorted) = ap (λ (i : ℕ). getD r i 0) ea ∙ ok-first unsorted (omega arith) (omega arith) in
       let last : getD r (at + 1) 0 ≡ lst none32 (bin h unsorted) = ap (λ (i : ℕ). getD r (i + 1) 0) ea ∙ ok-last unsorted (omega arith) (omega arith) in
+      let by-first : p ≡ none64 → f ≡ j = λ y.
+      let nil : xs ≡ [] = lst-nil w xs (a .low) (sym prev ∙ y) in
+      let own : hd none32 (bin h j) ≡ c = ap (hd none32) es ∙ ap (λ (l : List ℕ). hd none32 (l ++ c ∷ ys)) nil in
+      ef y ∙ bin-by j c z (getD r at 0) m (λ u. first ∙ ap (λ (i : ℕ). hd none32 (bin h i)) (sym u) ∙ own) (λ u. hd-has (bin h unsorted) c sc (sym first ∙ u)) in
+      let by-last : n ≡ none64 → g ≡ j = λ y.
+      let nil : ys ≡ [] = hd-nil w ys (a .high) (sym next ∙ y) in
+      let own : lst none32 (bin h j) ≡ c = ap (lst none32) es ∙ lst-append none32 xs (c ∷ ys) ∙ ap (lst c) nil in
+      ⊎-elim (λ u. efg u ∙ by-first u)
+      (λ ne. eg ne y ∙ bin-by j c z (getD r (at + 1) 0) m (λ u. last ∙ ap (λ (i : ℕ). lst none32 (bin h i)) (sym u) ∙ own) (λ u. lst-has (bin h unsorted) c sc (sym last ∙ u)))
+      (eq? p none64) in
       record {
         says = refl;
         bytes = e ∙ rw (e₁, prev, next)
@@ -194,16 +204,14 @@ module _ (h : Heap) (w r : List ℕ) (o : Ok h w r) where
             ∙ sym (apply-append (fwdTo xs (hd none64 ys)) (backTo ys (lst none64 xs)) w));
         rec = relinked j (binFirst f) (binLast g) p n n p (xs ++ ys) q₁ q (m .low) high
             (λ y.
-            let nil : xs ≡ [] = lst-nil w xs (a .low) (sym prev ∙ y) in
-            let own : hd none32 (bin h j) ≡ c = ap (hd none32) es ∙ ap (λ (l : List ℕ). hd none32 (l ++ c ∷ ys)) nil in (
-              ap binFirst (ef ∙ bin-by j c z (getD r at 0) m (λ u. first ∙ ap (λ (i : ℕ). hd none32 (bin h i)) (sym u) ∙ own) (λ u. hd-has (bin h unsorted) c sc (sym first ∙ u))),
+            let nil : xs ≡ [] = lst-nil w xs (a .low) (sym prev ∙ y) in (
+              ap binFirst (by-first y),
               ap down next ∙ down-hd w ys (a .high) ∙ ap (λ (l : List ℕ). hd none32 (l ++ ys)) (sym nil),
             ))
             (λ y. ap (hd none32) es ∙ hd-kept xs (c ∷ ys) ys (λ u. y (prev ∙ u)))
             (λ y.
-            let nil : ys ≡ [] = hd-nil w ys (a .high) (sym next ∙ y) in
-            let own : lst none32 (bin h j) ≡ c = ap (lst none32) es ∙ lst-append none32 xs (c ∷ ys) ∙ ap (lst c) nil in (
-              ap binLast (eg ∙ bin-by j c z (getD r (at + 1) 0) m (λ u. last ∙ ap (λ (i : ℕ). lst none32 (bin h i)) (sym u) ∙ own) (λ u. lst-has (bin h unsorted) c sc (sym last ∙ u))),
+            let nil : ys ≡ [] = hd-nil w ys (a .high) (sym next ∙ y) in (
+              ap binLast (by-last y),
               ap down prev ∙ down-lst w xs (a .low) ∙ sym (ap (λ (l : List ℕ). lst none32 (xs ++ l)) nil ∙ ap (lst none32) (append-nil xs)),
             ))
             (λ y. ap (lst none32) es ∙ lst-kept xs c ys (λ u. y (next ∙ u)))

@@ -25,6 +25,7 @@ ghost use Rattle.machine.specs.Writes.{size, note, put};
 ghost use Rattle.machine.specs.Primitives.{push, pop, linkIn, putFirst, unlink};
 ghost use Rattle.machine.specs.View.{sizeAt};
 ghost use Rattle.machine.specs.declared.{Got.Got, Got.the-variants.At};
+ghost use Rattle.sizes.specs.Limits.{none64};
 ghost use Rattle.sizes.specs.Layout.{binFirst, binLast};
 ghost use Rattle.sound.specs.Relation.{Loose};
 ghost use Rattle.sound.specs.Links.{down};
@@ -123,14 +124,29 @@ pub fn put_first(a: &mut [u8], r: &mut [u32], j: usize, c: u64)
     link_in(a, r, j, c, NONE64, n);
 }
 
-// The bin of a chunk c of size z that is the first of its list, or the last, v being unsorted's: unsorted if c is v, else its size's.
-fn bin_by(v: u32, c: u64, z: u64) -> usize
-    ensures { λ r. ⌜ (r ≡ binBy v c z) × (r ≤ 126) ⌝ }
+// The bin of a chunk c of size z that is the first of its list, or the last, v being unsorted's: unsorted if c is v, else its size's. Where the neighbour q at
+// that end is a chunk, nothing asks for the bin, and its table is not looked at.
+fn bin_by(q: u64, v: u32, c: u64, z: u64) -> usize
+    ensures { λ r. ⌜ (q ≡ none64 → r ≡ binBy v c z) × (r ≤ 126) ⌝ }
 {
+    if q != NONE64 {
+        return UNSORTED;
+    }
     if v as u64 == c {
         return UNSORTED;
     }
     sizes::bin_of(z)
+}
+
+// The same at the list's end: a chunk that is the first, of bin j, has the same bin as the last.
+fn end_by(p: u64, j: usize, n: u64, v: u32, c: u64, z: u64) -> usize
+    requires { ⌜ j ≤ 126 ⌝ }
+    ensures { λ r. ⌜ (p ≡ none64 → r ≡ j) × ((p ≡ none64 → ⊥) → n ≡ none64 → r ≡ binBy v c z) × (r ≤ 126) ⌝ }
+{
+    if p == NONE64 {
+        return j;
+    }
+    bin_by(n, v, c, z)
 }
 
 // c, a binned chunk of size z, leaves its bin.
@@ -142,8 +158,8 @@ pub fn unlink(a: &mut [u8], r: &mut [u32], c: u64, z: u64)
     let n = fwd_at(a, c);
     let p = back_at(a, c);
     let at = sizes::bin_first(UNSORTED);
-    let jf = bin_by(r[at], c, z);
-    let jl = bin_by(r[at + 1], c, z);
+    let jf = bin_by(p, r[at], c, z);
+    let jl = end_by(p, jf, n, r[at + 1], c, z);
     link_fwd(a, r, jf, p, n);
     link_back(a, r, jl, n, p);
 }

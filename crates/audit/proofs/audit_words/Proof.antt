@@ -11,7 +11,7 @@ slice-aggregate-audit-marks c = search needs
 audit-marks-requires : tie.Need-audit-marks-requires
 audit-marks-requires c κs =
     let s = c .before .before .before .before in
-    zeros-ask 256 (s .args .a .now) (s .args .r .now) (s .pre .0) (omega (arith, c .before .if1 .taken)) (s .pre .1)
+    zeros-ask 512 (s .args .a .now) (s .args .r .now) (s .pre .0) (omega (arith, c .before .if1 .taken)) (s .pre .1)
 
 returns : tie.Need-returns
 returns c = c .before .audit-marks .ensures .is
@@ -22,7 +22,7 @@ slice-aggregate-audit-marks-2 c = search needs
 audit-marks-requires-2 : tie.Need-audit-marks-requires-2
 audit-marks-requires-2 c κs =
     let s = c .before .before .before .before .before in
-    zeros-ask 2048 (s .args .a .now) (s .args .r .now) (s .pre .0) (omega (arith, c .before .if2 .taken)) (s .pre .1)
+    zeros-ask 4096 (s .args .a .now) (s .args .r .now) (s .pre .0) (omega (arith, c .before .if2 .taken)) (s .pre .1)
 
 returns-2 : tie.Need-returns-2
 returns-2 c = c .before .audit-marks2 .ensures .is

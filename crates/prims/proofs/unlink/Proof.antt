@@ -32,17 +32,17 @@ slice-read-bin-by c = omega (arith, ok-length _ _ _ (c .before .before .before .
 bin-by-requires : tie.Need-bin-by-requires
 bin-by-requires c κs = search needs
 
-add-bin-by : tie.Need-add-bin-by
-add-bin-by c = search needs
+add-end-by : tie.Need-add-end-by
+add-end-by c = search needs
 
-mul-bin-by-2 : tie.Need-mul-bin-by-2
-mul-bin-by-2 c = search needs
+mul-end-by : tie.Need-mul-end-by
+mul-end-by c = search needs
 
-slice-read-bin-by-2 : tie.Need-slice-read-bin-by-2
-slice-read-bin-by-2 c = omega (arith, ok-length _ _ _ (c .before .before .before .before .before .before .before .before .before .before .pre .ok))
+slice-read-end-by : tie.Need-slice-read-end-by
+slice-read-end-by c = omega (arith, ok-length _ _ _ (c .before .before .before .before .before .before .before .before .before .before .pre .ok))
 
-bin-by-requires-2 : tie.Need-bin-by-requires-2
-bin-by-requires-2 c κs = search needs
+end-by-requires : tie.Need-end-by-requires
+end-by-requires c κs = c .before .bin-by .ensures .1
 
 link-fwd-requires : tie.Need-link-fwd-requires
 link-fwd-requires c κs =
@@ -61,7 +61,7 @@ link-back-requires c κs =
     let d = k .before .before in
     let s = d .before .before .before .before in
     let e = home-ready _ _ _ _ _ _ _ (s .pre .ok) (s .pre .holds .home .here) (d .fwd-at .ensures) (k .back-at .ensures) in
-    (j .bin-by2 .ensures .1, f .link-fwd .kept .1 .0 ∙ ok-length _ _ _ (s .pre .ok), leads-kept _ _ _ (f .link-fwd .kept .0) (e .nin), e .pfit)
+    (j .end-by .ensures .2, f .link-fwd .kept .1 .0 ∙ ok-length _ _ _ (s .pre .ok), leads-kept _ _ _ (f .link-fwd .kept .0) (e .nin), e .pfit)
 
 same-length : tie.Need-same-length
 same-length c = search needs
@@ -79,7 +79,7 @@ returns c =
     let k = a .before in
     let d = k .before .before in
     let s = d .before .before .before .before in
-    λ h n o m. unlink-gave h _ _ o n (s .args .c) (s .args .z) _ _ _ _ _ _ _ _ _ m (d .fwd-at .ensures) (k .back-at .ensures) (a .bin-first .ensures) (i .bin-by .ensures .0) (j .bin-by2 .ensures .0)
+    λ h n o m. unlink-gave h _ _ o n (s .args .c) (s .args .z) _ _ _ _ _ _ _ _ _ m (d .fwd-at .ensures) (k .back-at .ensures) (a .bin-first .ensures) (i .bin-by .ensures .0) (j .end-by .ensures .0) (j .end-by .ensures .1)
     (f .link-fwd .ensures .0) (f .link-fwd .ensures .1) (b .link-back .ensures .0) (b .link-back .ensures .1)
 
 pub unlink-spec : {M : Type 1} → statement M
@@ -92,10 +92,10 @@ unlink-spec =
     mul-bin-by
     slice-read-bin-by
     bin-by-requires
-    add-bin-by
-    mul-bin-by-2
-    slice-read-bin-by-2
-    bin-by-requires-2
+    add-end-by
+    mul-end-by
+    slice-read-end-by
+    end-by-requires
     link-fwd-requires
     link-back-requires
     same-length

@@ -12,7 +12,7 @@ use Rattle.machine.specs.View.{sizeAt}
 use Rattle.machine.specs.declared.Audited.the-variants as A
 use Rattle.audit.specs.TileTurn.{arena-length}
 use Rattle.audit.specs.MarkLaws.{unmet-inside, unmet-one, mark-less}
-use Rattle.audit.specs.ListTurn.{Out, In, lists-enter, list-begin, list-met, list-unfit, list-turn, list-end-bad, list-leave, lists-done, kind-words}
+use Rattle.audit.specs.ListTurn.{Out, In, lists-enter, list-empty, list-begin, list-met, list-unfit, list-turn, list-end-bad, list-leave, lists-done, kind-words}
 use Rattle.audit.proofs.lists.list_fault.Statement.{statement}
 use Rattle.audit.proofs.lists.list_fault.Tie as tie
 
@@ -31,88 +31,8 @@ abbrev μ-lists : tie.MeasureT-lists
 lists-holds : tie.Need-lists-holds Inv-loop μ-loop Inv-lists μ-lists
 lists-holds c = let s = c .before .before .before in (refl, refl, omega arith, lists-enter (arenaWords (s .args .a .now)) (s .args .r .now) (s .args .m .now) (s .pre .2))
 
-kind-at-requires : tie.Need-kind-at-requires Inv-loop μ-loop Inv-lists μ-lists
-kind-at-requires c κs = search needs
-
-mark-requires : tie.Need-mark-requires Inv-loop μ-loop Inv-lists μ-lists
-mark-requires c κs = search needs
-
-head-requires : tie.Need-head-requires Inv-loop μ-loop Inv-lists μ-lists
-head-requires c κs = (c .before .before .before .before .before .before .before .pre .1, kind-words _ _ (c .before .kind-at .ensures) (c .before .before .lists-test .taken) .0)
-
-loop-holds : tie.Need-loop-holds Inv-loop μ-loop Inv-lists μ-lists
-loop-holds c =
-    let s = c .before .before .before .before .before .before .before .before in
-    let o = c .before .before .before .before .lists in
-    (refl, o .inv .1, list-begin (arenaWords (s .args .a .now)) (s .args .r .now) _ _ _ _ _ (c .before .before .kind-at .ensures) (c .head .ensures) (c .before .before .before .lists-test .taken) (o .inv .3))
-
-unmet-requires : tie.Need-unmet-requires Inv-loop μ-loop Inv-lists μ-lists
-unmet-requires c κs = search needs
-
-size-word-requires : tie.Need-size-word-requires Inv-loop μ-loop Inv-lists μ-lists
-size-word-requires c κs =
-    let s = c .before .before .before .before .before .before .before .before .before .before .before .before .before in
-    let l = c .before .before .before .before .loop in
-    let w = arenaWords (s .args .a .now) in
-    let len = arena-length (s .args .a .now) (s .pre .0 .arena) in
-    let un = sym (c .before .unmet .ensures) ∙ not-false _ (c .if1 .left) in
-    let j = unmet-inside w (l .m) _ _ (l .inv .2 .marks) (l .c) un in
-    (j .0, omega (arith, j .1, len))
-
-size-requires : tie.Need-size-requires Inv-loop μ-loop Inv-lists μ-lists
-size-requires c κs = search needs
-
-fits-requires : tie.Need-fits-requires Inv-loop μ-loop Inv-lists μ-lists
-fits-requires c κs =
-    let s = c .before .before .before .before .before .before .before .before .before .before .before .before .before .before .before in
-    let l = c .before .before .before .before .before .before .loop in
-    let w = arenaWords (s .args .a .now) in
-    let len = arena-length (s .args .a .now) (s .pre .0 .arena) in
-    let un = sym (c .before .before .before .unmet .ensures) ∙ not-false _ (c .before .before .if1 .left) in
-    let j = unmet-inside w (l .m) _ _ (l .inv .2 .marks) (l .c) un in
-    let e : c .size .result ≡ sizeAt w (l .c) = c .size .ensures ∙ ap (λ (x : ℕ). x / 16 * 16) (c .before .size-word .ensures) in
-    record { even = j .0; inside = omega (arith, j .1, len); size = e; before = l .inv .2 .sized }
-
-slice-write-m : tie.Need-slice-write-m Inv-loop μ-loop Inv-lists μ-lists
-slice-write-m c =
-    let l = c .before .before .before .before .before .before .before .before .loop in
-    unmet-one (l .m) (l .c) (sym (c .before .before .before .before .before .unmet .ensures) ∙ not-false _ (c .before .before .before .before .if1 .left)) .1
-
-add-n : tie.Need-add-n Inv-loop μ-loop Inv-lists μ-lists
-add-n c =
-    let s = c .before .before .before .before .before .before .before .before .before .before .before .before .before .before .before .before .before in
-    let l = c .before .before .before .before .before .before .before .before .loop in
-    let len = arena-length (s .args .a .now) (s .pre .0 .arena) in
-    omega (arith, l .inv .2 .few, len, s .pre .0 .arena .small)
-
-forward-requires : tie.Need-forward-requires Inv-loop μ-loop Inv-lists μ-lists
-forward-requires c κs =
-    let s = c .before .before .before .before .before .before .before .before .before .before .before .before .before .before .before .before .before in
-    let l = c .before .before .before .before .before .before .before .before .loop in
-    let w = arenaWords (s .args .a .now) in
-    let len = arena-length (s .args .a .now) (s .pre .0 .arena) in
-    let un = sym (c .before .before .before .before .before .unmet .ensures) ∙ not-false _ (c .before .before .before .before .if1 .left) in
-    let j = unmet-inside w (l .m) _ _ (l .inv .2 .marks) (l .c) un in
-    (j .0, omega (arith, j .1, len))
-
-loop-less : tie.Need-loop-less Inv-loop μ-loop Inv-lists μ-lists
-loop-less c =
-    let l = c .before .before .before .before .before .before .before .before .before .loop in
-    mark-less (l .m) (l .c) _ (c .before .before .before .before .before .before .before .before .before .before .before .before .kind-at .result) (c .before .before .before .before .before .before .before .before .before .before .before .mark .ensures) (sym (c .before .before .before .before .before .before .unmet .ensures) ∙ not-false _ (c .before .before .before .before .before .if1 .left))
-
-loop-again : tie.Need-loop-again Inv-loop μ-loop Inv-lists μ-lists
-loop-again c =
-    let s = c .before .before .before .before .before .before .before .before .before .before .before .before .before .before .before .before .before .before in
-    let l = c .before .before .before .before .before .before .before .before .before .loop in
-    let w = arenaWords (s .args .a .now) in
-    let e : c .before .before .before .size .result ≡ sizeAt w (l .c) = c .before .before .before .size .ensures ∙ ap (λ (x : ℕ). x / 16 * 16) (c .before .before .before .before .size-word .ensures) in (
-      length-set {A = ℕ} (l .m) (l .c / 16) _ ∙ l .inv .0,
-      l .inv .1,
-      rw (c .forward .ensures, c .before .before .before .before .before .before .before .before .before .before .before .mark .ensures) (list-turn w (s .args .r .now) _ _ _ _ _ _ _ (l .inv .2) _ _ _ (c .before .before .before .before .before .before .before .before .loop-test .taken) (c .before .before .before .before .before .before .unmet .ensures) (not-false _ (c .before .before .before .before .before .if1 .left)) (c .before .before .fits2 .ensures) (not-false _ (c .before .if2 .left)) e),
-    )
-
-may-end-requires : tie.Need-may-end-requires Inv-loop μ-loop Inv-lists μ-lists
-may-end-requires c κs = (c .before .before .before .before .before .before .before .before .before .before .pre .1, kind-words _ _ (c .before .before .before .before .kind-at .ensures) (c .before .before .before .before .before .lists-test .taken) .1)
+empty-requires : tie.Need-empty-requires Inv-loop μ-loop Inv-lists μ-lists
+empty-requires c κs = (c .before .before .before .before .before .pre .1, c .lists-test .taken)
 
 add-i : tie.Need-add-i Inv-loop μ-loop Inv-lists μ-lists
 add-i c = search needs
@@ -122,11 +42,107 @@ lists-less c = search needs
 
 lists-again : tie.Need-lists-again Inv-loop μ-loop Inv-lists μ-lists
 lists-again c =
-    let s = c .before .before .before .before .before .before .before .before .before .before .before .before in
+    let s = c .before .before .before .before .before .before .before in
+    let o = c .before .before .before .lists in
+    let h = c .before .before .lists-test .taken in
+    (o .inv .0, o .inv .1, omega (arith, h), list-empty (arenaWords (s .args .a .now)) (s .args .r .now) (o .m) (o .i) _ h (o .inv .3) (c .before .empty .ensures) (c .if1 .taken))
+
+kind-at-requires : tie.Need-kind-at-requires Inv-loop μ-loop Inv-lists μ-lists
+kind-at-requires c κs = search needs
+
+mark-requires : tie.Need-mark-requires Inv-loop μ-loop Inv-lists μ-lists
+mark-requires c κs = search needs
+
+head-requires : tie.Need-head-requires Inv-loop μ-loop Inv-lists μ-lists
+head-requires c κs = (c .before .before .before .before .before .before .before .before .before .pre .1, kind-words _ _ (c .before .kind-at .ensures) (c .before .before .before .before .lists-test .taken) .0)
+
+loop-holds : tie.Need-loop-holds Inv-loop μ-loop Inv-lists μ-lists
+loop-holds c =
+    let s = c .before .before .before .before .before .before .before .before .before .before in
+    let o = c .before .before .before .before .before .before .lists in
+    (refl, o .inv .1, list-begin (arenaWords (s .args .a .now)) (s .args .r .now) _ _ _ _ _ (c .before .before .kind-at .ensures) (c .head .ensures) (c .before .before .before .before .before .lists-test .taken) (o .inv .3))
+
+unmet-requires : tie.Need-unmet-requires Inv-loop μ-loop Inv-lists μ-lists
+unmet-requires c κs = search needs
+
+size-word-requires : tie.Need-size-word-requires Inv-loop μ-loop Inv-lists μ-lists
+size-word-requires c κs =
+    let s = c .before .before .before .before .before .before .before .before .before .before .before .before .before .before .before in
+    let l = c .before .before .before .before .loop in
+    let w = arenaWords (s .args .a .now) in
+    let len = arena-length (s .args .a .now) (s .pre .0 .arena) in
+    let un = sym (c .before .unmet .ensures) ∙ not-false _ (c .if2 .left) in
+    let j = unmet-inside w (l .m) _ _ (l .inv .2 .marks) (l .c) un in
+    (j .0, omega (arith, j .1, len))
+
+size-requires : tie.Need-size-requires Inv-loop μ-loop Inv-lists μ-lists
+size-requires c κs = search needs
+
+fits-requires : tie.Need-fits-requires Inv-loop μ-loop Inv-lists μ-lists
+fits-requires c κs =
+    let s = c .before .before .before .before .before .before .before .before .before .before .before .before .before .before .before .before .before in
+    let l = c .before .before .before .before .before .before .loop in
+    let w = arenaWords (s .args .a .now) in
+    let len = arena-length (s .args .a .now) (s .pre .0 .arena) in
+    let un = sym (c .before .before .before .unmet .ensures) ∙ not-false _ (c .before .before .if2 .left) in
+    let j = unmet-inside w (l .m) _ _ (l .inv .2 .marks) (l .c) un in
+    let e : c .size .result ≡ sizeAt w (l .c) = c .size .ensures ∙ ap (λ (x : ℕ). x / 16 * 16) (c .before .size-word .ensures) in
+    record { even = j .0; inside = omega (arith, j .1, len); size = e; before = l .inv .2 .sized }
+
+slice-write-m : tie.Need-slice-write-m Inv-loop μ-loop Inv-lists μ-lists
+slice-write-m c =
+    let l = c .before .before .before .before .before .before .before .before .loop in
+    unmet-one (l .m) (l .c) (sym (c .before .before .before .before .before .unmet .ensures) ∙ not-false _ (c .before .before .before .before .if2 .left)) .1
+
+add-n : tie.Need-add-n Inv-loop μ-loop Inv-lists μ-lists
+add-n c =
+    let s = c .before .before .before .before .before .before .before .before .before .before .before .before .before .before .before .before .before .before .before in
+    let l = c .before .before .before .before .before .before .before .before .loop in
+    let len = arena-length (s .args .a .now) (s .pre .0 .arena) in
+    omega (arith, l .inv .2 .few, len, s .pre .0 .arena .small)
+
+forward-requires : tie.Need-forward-requires Inv-loop μ-loop Inv-lists μ-lists
+forward-requires c κs =
+    let s = c .before .before .before .before .before .before .before .before .before .before .before .before .before .before .before .before .before .before .before in
+    let l = c .before .before .before .before .before .before .before .before .loop in
+    let w = arenaWords (s .args .a .now) in
+    let len = arena-length (s .args .a .now) (s .pre .0 .arena) in
+    let un = sym (c .before .before .before .before .before .unmet .ensures) ∙ not-false _ (c .before .before .before .before .if2 .left) in
+    let j = unmet-inside w (l .m) _ _ (l .inv .2 .marks) (l .c) un in
+    (j .0, omega (arith, j .1, len))
+
+loop-less : tie.Need-loop-less Inv-loop μ-loop Inv-lists μ-lists
+loop-less c =
+    let l = c .before .before .before .before .before .before .before .before .before .loop in
+    mark-less (l .m) (l .c) _ (c .before .before .before .before .before .before .before .before .before .before .before .before .kind-at .result) (c .before .before .before .before .before .before .before .before .before .before .before .mark .ensures) (sym (c .before .before .before .before .before .before .unmet .ensures) ∙ not-false _ (c .before .before .before .before .before .if2 .left))
+
+loop-again : tie.Need-loop-again Inv-loop μ-loop Inv-lists μ-lists
+loop-again c =
+    let s = c .before .before .before .before .before .before .before .before .before .before .before .before .before .before .before .before .before .before .before .before in
+    let l = c .before .before .before .before .before .before .before .before .before .loop in
+    let w = arenaWords (s .args .a .now) in
+    let e : c .before .before .before .size .result ≡ sizeAt w (l .c) = c .before .before .before .size .ensures ∙ ap (λ (x : ℕ). x / 16 * 16) (c .before .before .before .before .size-word .ensures) in (
+      length-set {A = ℕ} (l .m) (l .c / 16) _ ∙ l .inv .0,
+      l .inv .1,
+      rw (c .forward .ensures, c .before .before .before .before .before .before .before .before .before .before .before .mark .ensures) (list-turn w (s .args .r .now) _ _ _ _ _ _ _ (l .inv .2) _ _ _ (c .before .before .before .before .before .before .before .before .loop-test .taken) (c .before .before .before .before .before .before .unmet .ensures) (not-false _ (c .before .before .before .before .before .if2 .left)) (c .before .before .fits2 .ensures) (not-false _ (c .before .if3 .left)) e),
+    )
+
+may-end-requires : tie.Need-may-end-requires Inv-loop μ-loop Inv-lists μ-lists
+may-end-requires c κs = (c .before .before .before .before .before .before .before .before .before .before .before .before .pre .1, kind-words _ _ (c .before .before .before .before .kind-at .ensures) (c .before .before .before .before .before .before .before .lists-test .taken) .1)
+
+add-i-2 : tie.Need-add-i-2 Inv-loop μ-loop Inv-lists μ-lists
+add-i-2 c = search needs
+
+lists-less-2 : tie.Need-lists-less-2 Inv-loop μ-loop Inv-lists μ-lists
+lists-less-2 c = search needs
+
+lists-again-2 : tie.Need-lists-again-2 Inv-loop μ-loop Inv-lists μ-lists
+lists-again-2 c =
+    let s = c .before .before .before .before .before .before .before .before .before .before .before .before .before .before in
     let l = c .before .before .before .loop in
     let w = arenaWords (s .args .a .now) in
-    let o = c .before .before .before .before .before .before .before .before .lists in
-    (l .inv .0 ∙ o .inv .0, l .inv .1, omega (arith, c .before .before .before .before .before .before .before .lists-test .taken), list-leave w (s .args .r .now) _ _ _ _ _ _ _ (l .inv .2) _ (c .before .before .loop-test .left) (c .before .may-end .ensures) (not-false _ (c .if3 .left)))
+    let o = c .before .before .before .before .before .before .before .before .before .before .lists in
+    (l .inv .0 ∙ o .inv .0, l .inv .1, omega (arith, c .before .before .before .before .before .before .before .before .before .lists-test .taken), list-leave w (s .args .r .now) _ _ _ _ _ _ _ (l .inv .2) _ (c .before .before .loop-test .left) (c .before .may-end .ensures) (not-false _ (c .if4 .left)))
 
 same-length : tie.Need-same-length Inv-loop μ-loop Inv-lists μ-lists
 same-length c = c .before .lists .inv .0
@@ -138,34 +154,34 @@ returns c =
     rw (o .inv .1) (lists-done (arenaWords (s .args .a .now)) (s .args .r .now) (o .m) (o .i) (c .lists-test .left) (o .inv .2) (o .inv .3))
 
 same-length-2 : tie.Need-same-length-2 Inv-loop μ-loop Inv-lists μ-lists
-same-length-2 c = c .before .before .before .before .loop .inv .0 ∙ c .before .before .before .before .before .before .before .before .before .lists .inv .0
+same-length-2 c = c .before .before .before .before .loop .inv .0 ∙ c .before .before .before .before .before .before .before .before .before .before .before .lists .inv .0
 
 returns-2 : tie.Need-returns-2 Inv-loop μ-loop Inv-lists μ-lists
 returns-2 c =
-    let s = c .before .before .before .before .before .before .before .before .before .before .before .before .before in
+    let s = c .before .before .before .before .before .before .before .before .before .before .before .before .before .before .before in
     let l = c .before .before .before .before .loop in
     let w = arenaWords (s .args .a .now) in
-    list-met w (s .args .r .now) _ _ _ _ _ _ _ (l .inv .2) _ _ (c .before .before .before .loop-test .taken) (c .before .unmet .ensures) (not-true _ (c .if1 .taken))
+    list-met w (s .args .r .now) _ _ _ _ _ _ _ (l .inv .2) _ _ (c .before .before .before .loop-test .taken) (c .before .unmet .ensures) (not-true _ (c .if2 .taken))
 
 same-length-3 : tie.Need-same-length-3 Inv-loop μ-loop Inv-lists μ-lists
-same-length-3 c = c .before .before .before .before .before .before .before .before .loop .inv .0 ∙ c .before .before .before .before .before .before .before .before .before .before .before .before .before .lists .inv .0
+same-length-3 c = c .before .before .before .before .before .before .before .before .loop .inv .0 ∙ c .before .before .before .before .before .before .before .before .before .before .before .before .before .before .before .lists .inv .0
 
 returns-3 : tie.Need-returns-3 Inv-loop μ-loop Inv-lists μ-lists
 returns-3 c =
-    let s = c .before .before .before .before .before .before .before .before .before .before .before .before .before .before .before .before .before in
+    let s = c .before .before .before .before .before .before .before .before .before .before .before .before .before .before .before .before .before .before .before in
     let l = c .before .before .before .before .before .before .before .before .loop in
     let w = arenaWords (s .args .a .now) in
-    list-unfit w (s .args .r .now) _ _ _ _ _ _ _ (l .inv .2) _ _ _ (c .before .before .before .before .before .before .before .loop-test .taken) (c .before .before .before .before .before .unmet .ensures) (not-false _ (c .before .before .before .before .if1 .left)) (c .before .fits2 .ensures) (not-true _ (c .if2 .taken))
+    list-unfit w (s .args .r .now) _ _ _ _ _ _ _ (l .inv .2) _ _ _ (c .before .before .before .before .before .before .before .loop-test .taken) (c .before .before .before .before .before .unmet .ensures) (not-false _ (c .before .before .before .before .if2 .left)) (c .before .fits2 .ensures) (not-true _ (c .if3 .taken))
 
 same-length-4 : tie.Need-same-length-4 Inv-loop μ-loop Inv-lists μ-lists
-same-length-4 c = c .before .before .before .loop .inv .0 ∙ c .before .before .before .before .before .before .before .before .lists .inv .0
+same-length-4 c = c .before .before .before .loop .inv .0 ∙ c .before .before .before .before .before .before .before .before .before .before .lists .inv .0
 
 returns-4 : tie.Need-returns-4 Inv-loop μ-loop Inv-lists μ-lists
 returns-4 c =
-    let s = c .before .before .before .before .before .before .before .before .before .before .before .before in
+    let s = c .before .before .before .before .before .before .before .before .before .before .before .before .before .before in
     let l = c .before .before .before .loop in
     let w = arenaWords (s .args .a .now) in
-    list-end-bad w (s .args .r .now) _ _ _ _ _ _ _ (l .inv .2) _ _ (c .before .before .loop-test .left) (c .before .may-end .ensures) (not-true _ (c .if3 .taken))
+    list-end-bad w (s .args .r .now) _ _ _ _ _ _ _ (l .inv .2) _ _ (c .before .before .loop-test .left) (c .before .may-end .ensures) (not-true _ (c .if4 .taken))
 
 pub list-fault-spec : {M : Type 1} → statement M
 list-fault-spec =
@@ -176,6 +192,10 @@ list-fault-spec =
     Inv-lists
     μ-lists
     lists-holds
+    empty-requires
+    add-i
+    lists-less
+    lists-again
     kind-at-requires
     mark-requires
     head-requires
@@ -190,9 +210,9 @@ list-fault-spec =
     loop-less
     loop-again
     may-end-requires
-    add-i
-    lists-less
-    lists-again
+    add-i-2
+    lists-less-2
+    lists-again-2
     same-length
     returns
     same-length-2

@@ -9,7 +9,7 @@ slice-aggregate-look-with : tie.Need-slice-aggregate-look-with
 slice-aggregate-look-with c = search needs
 
 look-with-requires : tie.Need-look-with-requires
-look-with-requires c κs = let s = c .before .before .before .before in zeros-ask 256 (s .args .a .now) (s .args .r .now) (s .pre .0) (omega (arith, c .before .if1 .taken)) (s .pre .1)
+look-with-requires c κs = let s = c .before .before .before .before in zeros-ask 512 (s .args .a .now) (s .args .r .now) (s .pre .0) (omega (arith, c .before .if1 .taken)) (s .pre .1)
 
 returns : tie.Need-returns
 returns c = c .before .look-with .ensures
@@ -18,7 +18,7 @@ slice-aggregate-look-with-2 : tie.Need-slice-aggregate-look-with-2
 slice-aggregate-look-with-2 c = search needs
 
 look-with-requires-2 : tie.Need-look-with-requires-2
-look-with-requires-2 c κs = let s = c .before .before .before .before .before in zeros-ask 2048 (s .args .a .now) (s .args .r .now) (s .pre .0) (omega (arith, c .before .if2 .taken)) (s .pre .1)
+look-with-requires-2 c κs = let s = c .before .before .before .before .before in zeros-ask 4096 (s .args .a .now) (s .args .r .now) (s .pre .0) (omega (arith, c .before .if2 .taken)) (s .pre .1)
 
 returns-2 : tie.Need-returns-2
 returns-2 c = c .before .look-with2 .ensures

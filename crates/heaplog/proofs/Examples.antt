@@ -1,0 +1,53 @@
+-- Document 01's worked example, from the bytes of its script to the bytes of its output, by computation. Assumes nothing.
+use mathlib.Core.Path.{_≡_, refl}
+use mathlib.Core.List.{List, [], _∷_}
+use mathlib.Core.Bool.{true, false}
+use Prim.Native.Nat.{ℕ}
+use lib.ListN.{replicate}
+use Rattle.le.specs.Number.{number, numberFrom, words, digits, bytes}
+use Rattle.le.specs.Arena.{arenaWords}
+use Rattle.sizes.specs.Sizes.{need, usable, cacheOf, fastOf, binOf, largeBin}
+use Rattle.machine.specs.Heap.{recordOf}
+use Rattle.machine.specs.Release.{absorb, joinNext, putDown, join, releasePast, release, drain, drains, consolidate, emptying, joining, settle}
+use Rattle.machine.specs.Grant.{step1, moveFast, step2, takeLast, moveLasts, step3, step4, split, sortIn, splitLone, keep, turnAt, turn, swept, sweep, step5, carve, step8, step6, step7, step9, pass, again, from4, seek, grant}
+use Rattle.machine.specs.View.{listAt, tilesOf, stacksOf, binsOf}
+use Rattle.machine.specs.Audit.{tileFault, goodFrom, listFault, flagFault, auditOf}
+use Rattle.machine.specs.Calls.{auditCall, closedRecord, openCall, grantCall, releaseCall, settleCall}
+use Rattle.machine.proofs.Script.{same?}
+use Rattle.script.specs.Grammar.{digitsFrom, numberOf, lineOf}
+use Rattle.script.specs.Format.{decimal, field, callText, questionText}
+use Rattle.heaplog.specs.Run.{run, called, placedStep, lineStep}
+use Rattle.heaplog.specs.Script.{linesFrom, printed}
+
+-- A 256, G 24, G 25, R 16, R 16, G 0, G 200, R 48, R 16, S, G 200
+script : List ℕ
+script =
+    65 ∷ 32 ∷ 50 ∷ 53 ∷ 54 ∷ 10 ∷
+    71 ∷ 32 ∷ 50 ∷ 52 ∷ 10 ∷
+    71 ∷ 32 ∷ 50 ∷ 53 ∷ 10 ∷
+    82 ∷ 32 ∷ 49 ∷ 54 ∷ 10 ∷
+    82 ∷ 32 ∷ 49 ∷ 54 ∷ 10 ∷
+    71 ∷ 32 ∷ 48 ∷ 10 ∷
+    71 ∷ 32 ∷ 50 ∷ 48 ∷ 48 ∷ 10 ∷
+    82 ∷ 32 ∷ 52 ∷ 56 ∷ 10 ∷
+    82 ∷ 32 ∷ 49 ∷ 54 ∷ 10 ∷
+    83 ∷ 10 ∷
+    71 ∷ 32 ∷ 50 ∷ 48 ∷ 48 ∷ 10 ∷ []
+
+output : List ℕ
+output =
+    65 ∷ 32 ∷ 48 ∷ 32 ∷ 48 ∷ 32 ∷ 48 ∷ 32 ∷ 48 ∷ 10 ∷
+    71 ∷ 32 ∷ 48 ∷ 32 ∷ 49 ∷ 54 ∷ 32 ∷ 50 ∷ 52 ∷ 32 ∷ 51 ∷ 50 ∷ 10 ∷
+    71 ∷ 32 ∷ 48 ∷ 32 ∷ 52 ∷ 56 ∷ 32 ∷ 52 ∷ 48 ∷ 32 ∷ 56 ∷ 48 ∷ 10 ∷
+    82 ∷ 32 ∷ 48 ∷ 32 ∷ 48 ∷ 32 ∷ 48 ∷ 32 ∷ 56 ∷ 48 ∷ 10 ∷
+    82 ∷ 32 ∷ 52 ∷ 32 ∷ 48 ∷ 32 ∷ 48 ∷ 32 ∷ 56 ∷ 48 ∷ 10 ∷
+    71 ∷ 32 ∷ 48 ∷ 32 ∷ 49 ∷ 54 ∷ 32 ∷ 50 ∷ 52 ∷ 32 ∷ 56 ∷ 48 ∷ 10 ∷
+    71 ∷ 32 ∷ 53 ∷ 32 ∷ 48 ∷ 32 ∷ 48 ∷ 32 ∷ 56 ∷ 48 ∷ 10 ∷
+    82 ∷ 32 ∷ 48 ∷ 32 ∷ 48 ∷ 32 ∷ 48 ∷ 32 ∷ 56 ∷ 48 ∷ 10 ∷
+    82 ∷ 32 ∷ 48 ∷ 32 ∷ 48 ∷ 32 ∷ 48 ∷ 32 ∷ 56 ∷ 48 ∷ 10 ∷
+    83 ∷ 32 ∷ 48 ∷ 32 ∷ 48 ∷ 32 ∷ 48 ∷ 32 ∷ 48 ∷ 10 ∷
+    71 ∷ 32 ∷ 48 ∷ 32 ∷ 49 ∷ 54 ∷ 32 ∷ 50 ∷ 48 ∷ 48 ∷ 32 ∷ 50 ∷ 48 ∷ 56 ∷ 10 ∷ []
+
+worked-example : same? (printed (linesFrom [] script) (run (replicate 256 0) (replicate 1572 0) [] 0 0 false)) output ≡ true
+unfolding script output linesFrom printed lineStep placedStep called lineOf numberOf digitsFrom decimal field callText questionText number numberFrom words digits bytes arenaWords need usable cacheOf fastOf binOf largeBin recordOf absorb joinNext putDown join releasePast release drain drains consolidate emptying joining settle step1 moveFast step2 takeLast moveLasts step3 step4 split sortIn splitLone keep turnAt turn swept sweep step5 carve step8 step6 step7 step9 pass again from4 seek grant listAt tilesOf stacksOf binsOf tileFault goodFrom listFault flagFault auditOf auditCall closedRecord openCall grantCall releaseCall settleCall
+worked-example = refl

@@ -1,0 +1,40 @@
+-- What heaplog prints for a whole script, line by line; and the same as the code goes, byte by byte. Definitions only; ScriptLaws has their equality.
+use mathlib.Core.List.{List, [], _∷_, _++_}
+use mathlib.Core.Bool.{true, false}
+use Prim.Native.Nat.{ℕ}
+use lib.Dec.{eqb}
+use lib.ListN.{replicate}
+use Rattle.script.specs.Format.{newline, header}
+use Rattle.heaplog.specs.Run.{Run, run, Step, step, lineStep, byteStep, endStep}
+
+-- the lines of a text, after the bytes p of a line: each ends in a newline, which the last may lack if it has a byte
+abbrev pub lastLine : List ℕ → List (List ℕ)
+lastLine [] = []
+lastLine (b ∷ p) = (b ∷ p) ∷ []
+
+unfoldable pub linesFrom : List ℕ → List ℕ → List (List ℕ)
+linesFrom p [] = lastLine p
+linesFrom p (b ∷ t) = elim (eqb b newline) [ true ↦ p ∷ linesFrom [] t | false ↦ linesFrom (p ++ (b ∷ [])) t ]
+
+-- what a step prints, and then what is printed from its state on
+abbrev pub andThen : Step → (Run → List ℕ) → List ℕ
+andThen (step s o) f = o ++ f s
+
+-- the lines one by one, until the run ends
+unfoldable pub printed : List (List ℕ) → Run → List ℕ
+printed [] s = []
+printed (l ∷ ls) (run a r t k n true) = []
+printed (l ∷ ls) (run a r t k n false) = andThen (lineStep (run a r l k n false)) (printed ls)
+
+-- before the first line nothing is open; lent bytes and record are zeros, and would print the same if they were others
+abbrev pub beforeAll : Run
+beforeAll = run (replicate 49152 0) (replicate 1572 0) [] 0 0 false
+
+-- heaplog
+unfoldable pub heaplog : List ℕ → List ℕ
+heaplog text = header ++ printed (linesFrom [] text) beforeAll
+
+-- ---- the bytes one by one, and the end of the script
+unfoldable pub printedBytes : List ℕ → Run → List ℕ
+printedBytes [] s = andThen (endStep s) (λ _. [])
+printedBytes (b ∷ t) s = andThen (byteStep b s) (printedBytes t)

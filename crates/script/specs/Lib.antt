@@ -1,0 +1,4 @@
+pub mod Grammar
+pub mod GrammarLaws
+pub mod Rules
+pub mod Format

@@ -1,0 +1,32 @@
+-- Which line may stand where: the first line opens, up to 49,152 bytes, and no other does; a line of another form stands nowhere. Definitions only.
+use mathlib.Core.Bool.{Bool, false, not}
+use Prim.Native.Nat.{ℕ}
+use lib.Dec.{eqb, leb}
+use Rattle.machine.specs.Lists.{both}
+use Rattle.script.specs.Grammar.{letterA, letterG, letterR, letterS}
+use Rattle.script.specs.declared.Line.{Line}
+use Rattle.script.specs.declared.Line.the-variants.{Open, Grant, Release, Settle, Other}
+
+abbrev pub mostOpened : ℕ
+mostOpened = 49152
+
+abbrev pub first? : ℕ → Bool
+first? k = eqb k 1
+
+abbrev pub later? : ℕ → Bool
+later? k = not (first? k)
+
+-- whether the line with number k, from 1, is run
+abbrev pub inPlace? : ℕ → Line → Bool
+inPlace? k (Open n) = both (first? k) (leb n mostOpened)
+inPlace? k (Grant n) = later? k
+inPlace? k (Release n) = later? k
+inPlace? k Settle = later? k
+inPlace? k Other = false
+
+abbrev pub letterOf : Line → ℕ
+letterOf (Open n) = letterA
+letterOf (Grant n) = letterG
+letterOf (Release n) = letterR
+letterOf Settle = letterS
+letterOf Other = 63

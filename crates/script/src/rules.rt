@@ -1,0 +1,33 @@
+// Which line may stand where in a script: A in the first line and nowhere else, and not above what heaplog has. Assumes nothing.
+ghost use mathlib.Core.Path.{_≡_};
+ghost use Rattle.script.specs.Rules.{inPlace?, letterOf};
+use crate::Line;
+
+// The longest arena that a script can open.
+pub const MOST_OPENED: u32 = 49152;
+
+// Whether the line with number k, from 1, is run; if not, heaplog prints `? k` and ends.
+pub fn in_place(k: u64, line: Line) -> bool
+    ensures { λ r. ⌜ r ≡ inPlace? k line ⌝ }
+{
+    match line {
+        Line::Open(n) => { if k == 1 { n <= MOST_OPENED } else { false } }
+        Line::Grant(_) => k != 1,
+        Line::Release(_) => k != 1,
+        Line::Settle => k != 1,
+        Line::Other => false,
+    }
+}
+
+// The letter of a line, and `?` for a line of another form.
+pub fn letter_of(line: Line) -> u8
+    ensures { λ r. ⌜ r ≡ letterOf line ⌝ }
+{
+    match line {
+        Line::Open(_) => b'A',
+        Line::Grant(_) => b'G',
+        Line::Release(_) => b'R',
+        Line::Settle => b'S',
+        Line::Other => b'?',
+    }
+}
