@@ -26,7 +26,7 @@ printed [] s = []
 printed (l ∷ ls) (run a r t k n true) = []
 printed (l ∷ ls) (run a r t k n false) = andThen (lineStep (run a r l k n false)) (printed ls)
 
--- before the first line nothing is open; lent bytes and record are zeros, and would print the same if they were others
+-- before the first line nothing is open; lent bytes and record are zeros
 abbrev pub beforeAll : Run
 beforeAll = run (replicate 49152 0) (replicate 1572 0) [] 0 0 false
 
