@@ -114,6 +114,6 @@ raw p v y q s b = go (eqb q 0) (eqb p 0) refl
     go false true e = refl
     go false false e = refl
 
-pub flag-seen : (w : List ℕ) (o x y p b b′ q s : ℕ) (v : Bool) → x ≡ getD w (sizeWord o) 0 → p ≡ x % 16 → y ≡ getD w (prevWord o) 0 → b ≡ b′ → v ≡ flagOk (tile 0 p y) q s b
-    → v ≡ flagOk (tileAt w o) q s b′
-flag-seen w o x y p b b′ q s v e g f k h = h ∙ rw (g, e, f, k) (raw (lowAt w o) (getD w (prevWord o) 0) (sizeAt w o) q s b′)
+pub flag-seen : (w : List ℕ) (o x y p b q s : ℕ) (v : Bool) → x ≡ getD w (sizeWord o) 0 → p ≡ x % 16 → y ≡ getD w (prevWord o) 0 → v ≡ flagOk (tile 0 p y) q s b
+    → v ≡ flagOk (tileAt w o) q s b
+flag-seen w o x y p b q s v e g f h = h ∙ rw (g, e, f) (raw (lowAt w o) (getD w (prevWord o) 0) (sizeAt w o) q s b)

@@ -12,3 +12,4 @@ pub mod TileTurn
 pub mod ListTurn
 pub mod FlagTurn
 pub mod Whole
+pub mod Looks

@@ -19,7 +19,7 @@ use Rattle.machine.specs.declared.ListKind.{ListKind}
 use Rattle.machine.specs.declared.ListKind.the-variants.{Cache, Fast, Bin}
 use Rattle.machine.specs.declared.Audited.{Audited}
 use Rattle.machine.specs.declared.Audited.the-variants as A
-use Rattle.audit_leaves.specs.Leaves.{unmet, markOf, tailWord, Empty}
+use Rattle.audit_leaves.specs.Leaves.{unmet, markOf, tailWord, Empty, Skipped}
 use Rattle.audit.specs.Tests.{not-sound}
 use Rattle.audit.specs.Lists.{minusAll}
 use Rattle.audit.specs.Spelled.{listsOf, listsOf-length}
@@ -234,11 +234,20 @@ module _ (w r m : List ℕ) (k : ListKind) (i p q n c : ℕ) (o : In w r m k i p
         bins = λ x. omega (arith, o .bins x, ap (λ (y : List ℕ). binCnt k x y) d, bin-none k x);
       })
 
--- a list that is empty by its words is left as if its chunks had been gone through
-pub list-empty : (w r m : List ℕ) (i : ℕ) (v : Bool) → i < 200 → Out w r m i → (v ≡ true → Empty r (kindAt i)) → v ≡ true → Out w r m (i + 1)
-list-empty w r m i v h o f y =
-    let e = f y in
+-- a list that is empty by its words is left as if its chunks had been gone through; so is a run of them
+list-empty : (w r m : List ℕ) (i : ℕ) → i < 200 → Empty r (kindAt i) → Out w r m i → Out w r m (i + 1)
+list-empty w r m i h e o =
     list-leave w r m (kindAt i) i none64 0 0 (up (getD r (headWord (kindAt i)) 0)) (list-enter w r m i 0 h o) true (e .0) (sym (e .1)) refl
+
+pub list-skip : (w r m : List ℕ) (i j : ℕ) → Skipped r i j → Out w r m i → Out w r m j
+list-skip w r m i j s o = go (j - i) i (omega (arith, s .low)) s o
+  where
+    go : (n i : ℕ) → i + n ≡ j → Skipped r i j → Out w r m i → Out w r m j
+    go zero i e s o = let q : i ≡ j = omega (arith, e) in rw q at o
+    go (suc n) i e s o =
+        go n (i + 1) (omega (arith, e))
+        (record { low = omega (arith, e); high = s .high; empty = λ x p q. s .empty x (omega (arith, p)) q })
+        (list-empty w r m i (omega (arith, e, s .high)) (s .empty i (omega arith) (omega (arith, e))) o)
 
 -- ---- all lists are good
 drop-all : (n : ℕ) (ls : List (List ℕ)) → length ls ≡ n → drop n ls ≡ []

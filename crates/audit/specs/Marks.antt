@@ -3,15 +3,14 @@
 use mathlib.Core.Path.{_≡_}
 use mathlib.Core.List.{List}
 use Prim.Native.Nat.{ℕ, _+_, _*_, _/_, _%_, _≤_, _<_}
-use lib.Dec.{eqb}
 use lib.ListN.{length, getD, drop}
-use Rattle.machine.specs.Lists.{cnt, cntAll, ind}
+use Rattle.machine.specs.Lists.{cnt, cntAll}
 use Rattle.machine.specs.Heap.{startsFrom, endFrom, live?}
 use Rattle.machine.specs.View.{tileAt, tilesOf, view}
 use Rattle.machine.specs.Audit.{tileFault, listFault, flagFault, auditOf}
 use Rattle.machine.specs.declared.Audited.{Audited}
 use Rattle.machine.specs.declared.Audited.the-variants as A
-use Rattle.audit_leaves.specs.Leaves.{unmet}
+use Rattle.audit_leaves.specs.Leaves.{unmet, binnedBy}
 use Rattle.audit.specs.Tiles.{TilesOk}
 use Rattle.audit.specs.Lists.{minusAll}
 use Rattle.audit.specs.Spelled.{listsOf}
@@ -65,7 +64,7 @@ pub record Flagging (w : List ℕ) (top : ℕ) : Type 0 where
 
 -- the marks tell how often the bins have a chunk
 abbrev pub binAt : List ℕ → ℕ → ℕ
-binAt m x = ind (eqb (getD m (x / 16) 0) 3)
+binAt m x = binnedBy (getD m (x / 16) 0)
 
 abbrev pub Tells : List ℕ → List ℕ → (ℕ → ℕ) → Type 0
 Tells w m b = (x : ℕ) → 1 ≤ cnt x (startsOf w) → b x ≡ binAt m x

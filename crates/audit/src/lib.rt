@@ -3,7 +3,10 @@
 mod tiles; // tiles.rt: the tile loop
 mod lists; // lists.rt: the nested loop over lists and chunks
 mod flags; // flags.rt: the flag loop
+mod look; // look.rt: what a call finds before it writes
 
+pub use look::Look;
+pub use look::look_at;
 ghost use mathlib.Core.Path.{_≡_};
 ghost use lib.ListN.{length};
 ghost use Rattle.le.specs.Arena.{arenaWords};
@@ -12,7 +15,7 @@ ghost use Rattle.audit.specs.Marks.{ArenaBytes, Bytes, Clear, AuditDone}
 use machine::Audited;
 
 // The marks m, all 0 and one for each 16 bytes of arena, are lent: in a sound heap they are then 1 exactly at the live blocks.
-pub fn audit_marks(a: &[u8], r: &[u32], m: &mut [u8]) -> Audited
+fn audit_marks(a: &[u8], r: &[u32], m: &mut [u8]) -> Audited
     requires { ⌜ Bytes (now a) (now m) × (length (now r) ≡ 393) × Clear (now m) ⌝ }
     ensures { λ f. ⌜ AuditDone (arenaWords (now (a .entry))) (now (r .entry)) f (now (m .exit)) ⌝ }
 {
@@ -31,19 +34,14 @@ pub fn audit_marks(a: &[u8], r: &[u32], m: &mut [u8]) -> Audited
     flags::flag_fault(a, top, m)
 }
 
-// The marks of an arena of 1 KiB or more are cleared no further than eight times what it needs.
+// The answer does not depend on the block that a look asks about.
 pub fn audit_words(a: &[u8], r: &[u32]) -> Audited
     requires { ⌜ ArenaBytes (now a) × (length (now r) ≡ 393) ⌝ }
     ensures { λ f. ⌜ f ≡ auditOf (arenaWords (now (a .entry))) (now (r .entry)) ⌝ }
 {
-    if a.len() <= 8192 {
-        let mut m = [0u8; 512];
-        return audit_marks(a, r, &mut m);
+    match look::look_at(a, r, 0) {
+        Look::Faulty(f) => f,
+        Look::NotLive => Audited::Sound,
+        Look::Live => Audited::Sound,
     }
-    if a.len() <= 65536 {
-        let mut m = [0u8; 4096];
-        return audit_marks(a, r, &mut m);
-    }
-    let mut m = [0u8; 16384];
-    audit_marks(a, r, &mut m)
 }

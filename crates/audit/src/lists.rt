@@ -16,8 +16,9 @@ pub fn list_fault(a: &[u8], r: &[u32], m: &mut [u8]) -> Audited
     let mut fault = Audited::Sound;
     let mut i: u32 = 0;
     'lists: while i < 200 {
-        if audit_leaves::empty(r, i) {
-            i += 1;
+        let j = audit_leaves::skip(r, i);
+        if i < j {
+            i = j;
             continue;
         }
         let k = audit_leaves::kind_at(i);

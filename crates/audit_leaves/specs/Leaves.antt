@@ -2,15 +2,15 @@
 use mathlib.Core.Path.{_≡_}
 use mathlib.Core.List.{List}
 use mathlib.Core.Bool.{Bool, true}
-use Prim.Native.Nat.{ℕ, _+_, _/_, _%_, _≤_}
+use Prim.Native.Nat.{ℕ, _+_, _/_, _%_, _≤_, _<_}
 use lib.Dec.{eqb, ltb, leb}
 use lib.ListN.{length, getD}
 use Rattle.le.specs.Arena.{arenaWords}
-use Rattle.sizes.specs.Limits.{none64, leastChunk}
+use Rattle.sizes.specs.Limits.{none64, none32, leastChunk}
 use Rattle.sizes.specs.Layout.{cacheCount, binLast}
 use Rattle.sizes.specs.SizeWord.{sizeOfWord, lowOfWord}
-use Rattle.machine.specs.Lists.{both}
-use Rattle.machine.specs.View.{sizeAt, up, headWord}
+use Rattle.machine.specs.Lists.{both, ind}
+use Rattle.machine.specs.View.{sizeAt, up, kindAt, headWord}
 use Rattle.machine.specs.Audit.{mayEnd}
 use Rattle.machine.specs.declared.ListKind.{ListKind}
 use Rattle.machine.specs.declared.ListKind.the-variants.{Cache, Fast, Bin}
@@ -24,6 +24,10 @@ markOf (Cache k) = 2
 markOf (Fast k) = 2
 markOf (Bin j) = 3
 
+-- how often the bins have a chunk of this mark
+abbrev pub binnedBy : ℕ → ℕ
+binnedBy v = ind (eqb v 3)
+
 -- whether x can be a tile's size word
 abbrev pub wordOk : ℕ → Bool
 wordOk x = both (ltb (lowOfWord x) 2) (leb leastChunk (sizeOfWord x))
@@ -34,9 +38,19 @@ tailWord (Cache k) = cacheCount k
 tailWord (Fast k) = 0
 tailWord (Bin j) = binLast j
 
+-- n words of the record from f on are none
+abbrev pub NoneFrom : List ℕ → ℕ → ℕ → Type 0
+NoneFrom r f n = (i : ℕ) → i < n → getD r (f + i) 0 ≡ none32
+
 -- a list that has no chunk and ends rightly
 abbrev pub Empty : List ℕ → ListKind → Type 0
 Empty r k = (up (getD r (headWord k) 0) ≡ none64) × (mayEnd k r none64 0 ≡ true)
+
+-- from list i on, up to list j, each list is so
+pub record Skipped (r : List ℕ) (i j : ℕ) : Type 0 where
+  pub low : i ≤ j
+  pub high : j ≤ 200
+  pub empty : (x : ℕ) → i ≤ x → x < j → Empty r (kindAt x)
 
 -- c is within the arena and s its size; q is that of the chunk p before it
 pub record Stand (a : List ℕ) (c s p q : ℕ) : Type 0 where

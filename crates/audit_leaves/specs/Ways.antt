@@ -2,19 +2,24 @@
 use mathlib.Core.Path.{_≡_, refl, sym, ap, _∙_, subst}
 use mathlib.Core.List.{List}
 use mathlib.Core.Bool.{Bool, true, false}
-use Prim.Native.Nat.{ℕ, _+_, _-_, _*_, _≤_, _<_}
+use mathlib.Core.Logic.{⊎-elim}
+use Prim.Native.Nat.{ℕ, zero, suc, _+_, _-_, _*_, _≤_, _<_}
+use native.Mathlib.Nat.{add-assoc}
+use native.Mathlib.Omega.{arith}
 use lib.Dec.{eqb, ltb, leb}
+use lib.Bits.{bitAnd, and-le-l, and-le-r}
 use lib.ListN.{getD}
-use borrow.Author.Tests.{eq-eqb, ne-eqb, lt-ltb, le-ltb, eqb-true}
+use borrow.Author.Tests.{eq-eqb, ne-eqb, lt-ltb, le-ltb, ltb-true, ltb-false}
 use Rattle.sizes.specs.Limits.{none64, none32}
 use Rattle.sizes.specs.Sizes.{binOf}
 use Rattle.sizes.specs.Layout.{cacheHead, cacheCount, fastHead, binFirst, binLast, backWord}
 use Rattle.machine.specs.Lists.{either}
+use Rattle.machine.specs.Count.{eq?}
 use Rattle.machine.specs.View.{sizeAt, up, kindAt, headWord}
 use Rattle.machine.specs.Audit.{fits, mayEnd}
 use Rattle.machine.specs.declared.ListKind.{ListKind}
 use Rattle.machine.specs.declared.ListKind.the-variants.{Cache, Fast, Bin}
-use Rattle.audit_leaves.specs.Leaves.{Empty}
+use Rattle.audit_leaves.specs.Leaves.{NoneFrom, Empty, Skipped}
 
 pub word-at : (w : List ℕ) (i j x : ℕ) → i ≡ j → x ≡ getD w i 0 → x ≡ getD w j 0
 word-at w i j x e g = g ∙ ap (λ (n : ℕ). getD w n 0) e
@@ -33,23 +38,104 @@ fits-by k k′ w p n c e = ap (λ (z : ListKind). fits z w p n c) (sym e)
 up-none : (v : ℕ) → v ≡ none32 → up v ≡ none64
 up-none v e = rw (eq-eqb v none32 e, up)
 
-pub cache-empty : (r : List ℕ) (i : ℕ) → i < 64 → getD r (cacheHead i) 0 ≡ none32 → eqb (getD r (cacheCount i) 0) 0 ≡ true → Empty r (kindAt i)
+cache-empty : (r : List ℕ) (i : ℕ) → i < 64 → getD r (cacheHead i) 0 ≡ none32 → getD r (cacheCount i) 0 ≡ 0 → Empty r (kindAt i)
 cache-empty r i l h e =
     let k : kindAt i ≡ Cache i = rw (lt-ltb i 64 l, kindAt) in
-    subst (Empty r) (sym k) (up-none (getD r (cacheHead i) 0) h, e)
+    subst (Empty r) (sym k) (up-none (getD r (cacheHead i) 0) h, eq-eqb _ _ e)
 
-pub fast-empty : (r : List ℕ) (i : ℕ) → 64 ≤ i → i < 74 → eqb (getD r (fastHead (i - 64)) 0) none32 ≡ true → Empty r (kindAt i)
+fast-empty : (r : List ℕ) (i : ℕ) → 64 ≤ i → i < 74 → getD r (fastHead (i - 64)) 0 ≡ none32 → Empty r (kindAt i)
 fast-empty r i g l h =
     let k : kindAt i ≡ Fast (i - 64) = rw (le-ltb i 64 g, kindAt) (rw (lt-ltb i 74 l)) in
-    subst (Empty r) (sym k) (up-none (getD r (fastHead (i - 64)) 0) (eqb-true _ _ h), refl)
+    subst (Empty r) (sym k) (up-none (getD r (fastHead (i - 64)) 0) h, refl)
 
-pub bin-empty : (r : List ℕ) (i f l : ℕ) → 64 ≤ i → 74 ≤ i → f ≡ binFirst (i - 73) → l ≡ binLast (i - 73)
-    → getD r f 0 ≡ none32 → eqb (getD r l 0) none32 ≡ true → Empty r (kindAt i)
-bin-empty r i f l g g₂ ef el h e =
-    let k : kindAt i ≡ Bin (i - 73) = rw (le-ltb i 64 g, kindAt) (rw (le-ltb i 74 g₂)) in
-    let first : getD r (binFirst (i - 73)) 0 ≡ none32 = ap (λ (n : ℕ). getD r n 0) (sym ef) ∙ h in
-    let last : getD r (binLast (i - 73)) 0 ≡ none32 = ap (λ (n : ℕ). getD r n 0) (sym el) ∙ eqb-true _ _ e in
-    subst (Empty r) (sym k) (up-none (getD r (binFirst (i - 73)) 0) first, eq-eqb (up (getD r (binLast (i - 73)) 0)) none64 (up-none (getD r (binLast (i - 73)) 0) last))
+bin-empty : (r : List ℕ) (i : ℕ) → 74 ≤ i → getD r (binFirst (i - 73)) 0 ≡ none32 → getD r (binLast (i - 73)) 0 ≡ none32 → Empty r (kindAt i)
+bin-empty r i g h e =
+    let k : kindAt i ≡ Bin (i - 73) = rw (le-ltb i 64 (omega arith), kindAt) (rw (le-ltb i 74 g)) in
+    subst (Empty r) (sym k) (up-none (getD r (binFirst (i - 73)) 0) h, eq-eqb (up (getD r (binLast (i - 73)) 0)) none64 (up-none (getD r (binLast (i - 73)) 0) e))
+
+-- ---- words whose `&` is none are none, as it is at most each of them
+four-and : (a b c d : ℕ) → none32 ≤ bitAnd (bitAnd (bitAnd a b) c) d → (none32 ≤ a) × (none32 ≤ b) × (none32 ≤ c) × (none32 ≤ d)
+four-and a b c d h =
+    let abc : ℕ = bitAnd (bitAnd a b) c in
+    let ab : ℕ = bitAnd a b in
+    let x : none32 ≤ abc = omega (arith, and-le-l abc d) in
+    let y : none32 ≤ ab = omega (arith, and-le-l ab c) in
+    (omega (arith, and-le-l a b), omega (arith, and-le-r a b), omega (arith, and-le-r ab c), omega (arith, and-le-r abc d))
+
+pub eight-and : (r : List ℕ) (f : ℕ) → ((i : ℕ) → getD r i 0 ≤ none32)
+    → bitAnd (bitAnd (bitAnd (bitAnd (getD r (f + 0) 0) (getD r (f + 1) 0)) (getD r (f + 2) 0)) (getD r (f + 3) 0))
+    (bitAnd (bitAnd (bitAnd (getD r (f + 4) 0) (getD r (f + 5) 0)) (getD r (f + 6) 0)) (getD r (f + 7) 0)) ≡ none32 → NoneFrom r f 8
+eight-and r f s e = go
+  where
+    g : ℕ → ℕ
+    g i = getD r (f + i) 0
+
+    low : ℕ
+    low = bitAnd (bitAnd (bitAnd (g 0) (g 1)) (g 2)) (g 3)
+
+    high : ℕ
+    high = bitAnd (bitAnd (bitAnd (g 4) (g 5)) (g 6)) (g 7)
+
+    x : (none32 ≤ g 0) × (none32 ≤ g 1) × (none32 ≤ g 2) × (none32 ≤ g 3)
+    x = four-and (g 0) (g 1) (g 2) (g 3) (omega (arith, e, and-le-l low high))
+
+    y : (none32 ≤ g 4) × (none32 ≤ g 5) × (none32 ≤ g 6) × (none32 ≤ g 7)
+    y = four-and (g 4) (g 5) (g 6) (g 7) (omega (arith, e, and-le-r low high))
+
+    go : (i : ℕ) → i < 8 → g i ≡ none32
+    go zero h = omega (arith, x .0, s (f + 0))
+    go (suc zero) h = omega (arith, x .1, s (f + 1))
+    go (suc (suc zero)) h = omega (arith, x .2, s (f + 2))
+    go (suc (suc (suc zero))) h = omega (arith, x .3, s (f + 3))
+    go (suc (suc (suc (suc zero)))) h = omega (arith, y .0, s (f + 4))
+    go (suc (suc (suc (suc (suc zero))))) h = omega (arith, y .1, s (f + 5))
+    go (suc (suc (suc (suc (suc (suc zero)))))) h = omega (arith, y .2, s (f + 6))
+    go (suc (suc (suc (suc (suc (suc (suc zero))))))) h = omega (arith, y .3, s (f + 7))
+    go (suc (suc (suc (suc (suc (suc (suc (suc i)))))))) h = absurd (omega (arith, h))
+
+-- ---- a run of empty lists: none yet, one more, one run after the other
+pub skipped-none : (r : List ℕ) (i : ℕ) → i ≤ 200 → Skipped r i i
+skipped-none r i h = record { low = omega arith; high = h; empty = λ x p q. absurd (omega arith) }
+
+skipped-one : (r : List ℕ) (i j : ℕ) → j < 200 → Skipped r i j → Empty r (kindAt j) → Skipped r i (j + 1)
+skipped-one r i j h s e = record {
+  low = omega (arith, s .low);
+  high = omega arith;
+  empty = λ x p q. ⊎-elim (λ (z : x ≡ j). subst (λ (y : ℕ). Empty r (kindAt y)) (sym z) e) (λ (z : x ≡ j → ⊥). s .empty x p (omega (arith, z))) (eq? x j);
+}
+
+pub skipped-then : (r : List ℕ) (i j k : ℕ) → Skipped r i j → Skipped r j k → Skipped r i k
+skipped-then r i j k s t = record {
+  low = omega (arith, s .low, t .low);
+  high = t .high;
+  empty = λ x p q. go x p q (ltb x j) refl;
+}
+  where
+    go : (x : ℕ) → i ≤ x → x < k → (b : Bool) → ltb x j ≡ b → Empty r (kindAt x)
+    go x p q true e = s .empty x p (ltb-true x j e)
+    go x p q false e = t .empty x (ltb-false x j e) q
+
+pub skipped-cache : (r : List ℕ) (i j : ℕ) → j < 64 → Skipped r i j → getD r (cacheHead j) 0 ≡ none32 → getD r (cacheCount j) 0 ≡ 0 → Skipped r i (j + 1)
+skipped-cache r i j l s h e = skipped-one r i j (omega arith) s (cache-empty r j l h e)
+
+pub skipped-fast : (r : List ℕ) (i j : ℕ) → 64 ≤ j → j < 74 → Skipped r i j → getD r (fastHead (j - 64)) 0 ≡ none32 → Skipped r i (j + 1)
+skipped-fast r i j g l s h = skipped-one r i j (omega arith) s (fast-empty r j g l h)
+
+pub skipped-bin : (r : List ℕ) (i j f : ℕ) → 74 ≤ j → j < 200 → f ≡ binFirst (j - 73) → Skipped r i j → getD r f 0 ≡ none32 → getD r (f + 1) 0 ≡ none32 → Skipped r i (j + 1)
+skipped-bin r i j f g l e s h t =
+    skipped-one r i j l s (bin-empty r j g (ap (λ (n : ℕ). getD r n 0) (sym e) ∙ h) (ap (λ (n : ℕ). getD r n 0) (omega (arith, e)) ∙ t))
+
+pub skipped-four : (r : List ℕ) (i j f : ℕ) → 74 ≤ j → j < 197 → f ≡ binFirst (j - 73) → Skipped r i j → NoneFrom r f 8 → Skipped r i (j + 4)
+skipped-four r i j f g l e s h =
+    let w : (k : ℕ) → k < 8 → getD r (binFirst (j - 73) + k) 0 ≡ none32 = λ k q. ap (λ (n : ℕ). getD r (n + k) 0) (sym e) ∙ h k q in
+    let one : (k : ℕ) → k < 4 → Skipped r i (j + k) → Skipped r i (j + k + 1) = λ k q z.
+    skipped-bin r i (j + k) (binFirst (j - 73) + 2 * k) (omega arith) (omega arith) (omega arith) z (w (2 * k) (omega arith)) (rw (add-assoc (binFirst (j - 73)) (2 * k) 1) (w (2 * k + 1) (omega arith))) in
+    let e₀ : j + 0 ≡ j = omega arith in
+    let e₁ : j + 0 + 1 ≡ j + 1 = omega arith in
+    let e₂ : j + 1 + 1 ≡ j + 2 = omega arith in
+    let e₃ : j + 2 + 1 ≡ j + 3 = omega arith in
+    let e₄ : j + 3 + 1 ≡ j + 4 = omega arith in
+    rw e₄ at (one 3 (omega arith) (rw e₃ at (one 2 (omega arith) (rw e₂ at (one 1 (omega arith) (rw e₁ at (one 0 (omega arith) (rw e₀ s))))))))
 
 -- ---- a chunk in a bin: o says whether its size belongs, v is its back link
 pub bin-size : (j p c : ℕ) (w : List ℕ) (o : Bool) (s : ℕ) → s ≡ sizeAt w c → o ≡ either (eqb j 1) (eqb (binOf s) j) → o ≡ false → false ≡ fits (Bin j) w p 0 c

@@ -3,14 +3,15 @@
 mod chunk; // chunk.rt: the four words of a chunk
 mod tiles; // tiles.rt: a tile's size word
 mod lists; // lists.rt: a list's kind, head and end, and a chunk in it
+mod empties; // empties.rt: lists that are empty by the record's words
 mod flags; // flags.rt: a chunk's P and previous size
 
 pub use chunk::forward;
 pub use chunk::previous;
 pub use chunk::size_word;
-pub use flags::binned;
+pub use empties::skip;
+pub use flags::BINNED;
 pub use flags::flag_ok;
-pub use lists::empty;
 pub use lists::fits;
 pub use lists::head;
 pub use lists::kind_at;

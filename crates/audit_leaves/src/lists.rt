@@ -1,7 +1,7 @@
 // One list of the heap: its kind, its head and end in the record, and whether a chunk may stand in it. Assumes nothing.
 use crate::chunk;
+use crate::flags::BINNED;
 ghost use mathlib.Core.Path.{_≡_};
-ghost use mathlib.Core.Bool.{true};
 ghost use Prim.Native.Nat.{_+_, _*_, _<_};
 ghost use lib.Dec.{eqb};
 ghost use lib.ListN.{length, getD};
@@ -10,7 +10,7 @@ ghost use Rattle.sizes.specs.Sizes.{binOf};
 ghost use Rattle.machine.specs.Lists.{either};
 ghost use Rattle.machine.specs.View.{up, kindAt, headWord};
 ghost use Rattle.machine.specs.Audit.{fits, mayEnd};
-ghost use Rattle.audit_leaves.specs.Leaves.{unmet, markOf, tailWord, Empty, Stand};
+ghost use Rattle.audit_leaves.specs.Leaves.{unmet, markOf, tailWord, Stand};
 use machine::ListKind;
 use sizes::NONE32;
 use sizes::NONE64;
@@ -34,7 +34,7 @@ pub fn mark(k: ListKind) -> u8
     match k {
         ListKind::Cache(_) => 2,
         ListKind::Fast(_) => 2,
-        ListKind::Bin(_) => 3,
+        ListKind::Bin(_) => BINNED,
     }
 }
 
@@ -89,29 +89,6 @@ pub fn may_end(r: &[u32], k: ListKind, p: u64, n: u32) -> bool
             wide(r[i]) == p
         }
     }
-}
-
-// Whether list i has no chunk and ends rightly, by the record's words alone: most lists are so, and nothing else of them is then looked at.
-pub fn empty(r: &[u32], i: u32) -> bool
-    requires { ⌜ (length (now r) ≡ 393) × (i < 200) ⌝ }
-    ensures { λ v. ⌜ (v ≡ true → Empty (now (r .entry)) (kindAt i)) ⌝ }
-{
-    let j = i as usize;
-    if i < 64 {
-        if r[sizes::CACHE_HEADS + j] != NONE32 {
-            return false;
-        }
-        return r[sizes::CACHE_COUNTS + j] == 0;
-    }
-    if i < 74 {
-        return r[sizes::FAST_HEADS + (j - 64)] == NONE32;
-    }
-    let first = sizes::bin_first(j - 73);
-    if r[first] != NONE32 {
-        return false;
-    }
-    let last = sizes::bin_last(j - 73);
-    r[last] == NONE32
 }
 
 // The size that cache list j owns, and fast list j.

@@ -25,14 +25,15 @@ use Rattle.sound.specs.Relation.{Loose, Good, Sound}
 use Rattle.sound.specs.Tiles.{lt-or-le}
 use Rattle.sound.specs.Live.{live-loose}
 use Rattle.sound.specs.Release.{both-true}
+use Rattle.audit.specs.Tests.{is-sound}
 use Rattle.audit.specs.Marks.{ArenaBytes}
 use Rattle.audit.specs.TileTurn.{arena-words}
 use Rattle.audit.specs.Exact.{audit-sound}
+use Rattle.audit.specs.Looks.{liveMem?, lookAt, look-is-faulty, look-is-live, look-is-dead}
+use Rattle.audit.specs.declared.look.Look.{Look}
+use Rattle.audit.specs.declared.look.Look.the-variants.{Faulty, NotLive, Live}
 use Rattle.fields.specs.Follow.{Ok, Has, Does}
 use Rattle.calls.specs.Ways.{Octets, kept, allowed-true, shape-true, settle-unsound, settle-done, release-unsound, release-null, release-dead, release-done}
-use Rattle.calls.specs.Looks.{sound-is, liveMem?, lookAt, look-is-unsound, look-is-live, look-is-dead}
-use Rattle.calls.specs.declared.call_release.Look.{Look}
-use Rattle.calls.specs.declared.call_release.Look.the-variants.{Unsound, NotLive, Live}
 
 -- good buffers, and the record's words q
 pub record Came (a r q : List ℕ) : Type 0 where
@@ -60,7 +61,7 @@ words-small r s i =
 
 pub came-sound : (a r q : List ℕ) → Came a r q → sound? (auditOf (arenaWords a) (wordsOf r)) ≡ true → Sound (heapIn a r) (arenaWords a) (wordsOf r)
 came-sound a r q c e =
-    audit-sound (arenaWords a) (wordsOf r) (arena-words a (came-arena a r q c)) (length-words 4 393 r) (words-small r (c .small)) (sound-is (auditOf (arenaWords a) (wordsOf r)) e)
+    audit-sound (arenaWords a) (wordsOf r) (arena-words a (came-arena a r q c)) (length-words 4 393 r) (words-small r (c .small)) (is-sound (auditOf (arenaWords a) (wordsOf r)) e)
 
 -- as the code has it: an answer about q
 pub told : (a r q : List ℕ) (f : Audited) → Came a r q → f ≡ auditOf (arenaWords a) q → (t : Bool) → sound? f ≡ t → sound? (auditOf (arenaWords a) (wordsOf r)) ≡ t
@@ -91,8 +92,8 @@ settle-through a r q b v p f c e s o d z =
 looked : (a r q : List ℕ) (m : ℕ) (l : Look) → Came a r q → l ≡ lookAt (arenaWords a) q m → l ≡ lookAt (arenaWords a) (wordsOf r) m
 looked a r q m l c e = e ∙ ap (λ (p : List ℕ). lookAt (arenaWords a) p m) (c .words)
 
-pub release-refused : (a r q : List ℕ) (m : ℕ) (l : Look) → Came a r q → l ≡ lookAt (arenaWords a) q m → l ≡ Unsound → after a r (Refused R.Unsound) ≡ releaseCall a r m
-release-refused a r q m l c e u = release-unsound a r m (came-shape a r q c) (look-is-unsound (arenaWords a) (wordsOf r) m (sym u ∙ looked a r q m l c e))
+pub release-refused : (a r q : List ℕ) (m : ℕ) (l : Look) (f : Audited) → Came a r q → l ≡ lookAt (arenaWords a) q m → l ≡ Faulty f → after a r (Refused R.Unsound) ≡ releaseCall a r m
+release-refused a r q m l f c e u = release-unsound a r m (came-shape a r q c) (look-is-faulty (arenaWords a) (wordsOf r) f m (sym u ∙ looked a r q m l c e))
 
 pub release-of-null : (a r q : List ℕ) (m : ℕ) (l : Look) → Came a r q → l ≡ lookAt (arenaWords a) q m → l ≡ NotLive → eqb m 0 ≡ true → after a r Done ≡ releaseCall a r m
 release-of-null a r q m l c e u z =

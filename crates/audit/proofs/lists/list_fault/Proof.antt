@@ -12,15 +12,15 @@ use Rattle.machine.specs.View.{sizeAt}
 use Rattle.machine.specs.declared.Audited.the-variants as A
 use Rattle.audit.specs.TileTurn.{arena-length}
 use Rattle.audit.specs.MarkLaws.{unmet-inside, unmet-one, mark-less}
-use Rattle.audit.specs.ListTurn.{Out, In, lists-enter, list-empty, list-begin, list-met, list-unfit, list-turn, list-end-bad, list-leave, lists-done, kind-words}
+use Rattle.audit.specs.ListTurn.{Out, In, lists-enter, list-skip, list-begin, list-met, list-unfit, list-turn, list-end-bad, list-leave, lists-done, kind-words}
 use Rattle.audit.proofs.lists.list_fault.Statement.{statement}
 use Rattle.audit.proofs.lists.list_fault.Tie as tie
 
 abbrev Inv-loop : tie.InvT-loop
-Inv-loop a r m₀ fault₀ i k v c₀ p₀ q₀ n₀ m fault c p q n = (length m ≡ length m₀) × (fault ≡ A.Sound) × In (arenaWords a) r m k i p q n c
+Inv-loop a r m₀ fault₀ i j k v c₀ p₀ q₀ n₀ m fault c p q n = (length m ≡ length m₀) × (fault ≡ A.Sound) × In (arenaWords a) r m k i p q n c
 
 abbrev μ-loop : tie.MeasureT-loop
-μ-loop a r m₀ fault₀ i k v c₀ p₀ q₀ n₀ m fault c p q n = cnt 1 m
+μ-loop a r m₀ fault₀ i j k v c₀ p₀ q₀ n₀ m fault c p q n = cnt 1 m
 
 abbrev Inv-lists : tie.InvT-lists
 Inv-lists a r m₀ fault₀ i₀ m fault i = (length m ≡ length m₀) × (fault ≡ A.Sound) × (i ≤ 200) × Out (arenaWords a) r m i
@@ -31,11 +31,8 @@ abbrev μ-lists : tie.MeasureT-lists
 lists-holds : tie.Need-lists-holds Inv-loop μ-loop Inv-lists μ-lists
 lists-holds c = let s = c .before .before .before in (refl, refl, omega arith, lists-enter (arenaWords (s .args .a .now)) (s .args .r .now) (s .args .m .now) (s .pre .2))
 
-empty-requires : tie.Need-empty-requires Inv-loop μ-loop Inv-lists μ-lists
-empty-requires c κs = (c .before .before .before .before .before .pre .1, c .lists-test .taken)
-
-add-i : tie.Need-add-i Inv-loop μ-loop Inv-lists μ-lists
-add-i c = search needs
+skip-requires : tie.Need-skip-requires Inv-loop μ-loop Inv-lists μ-lists
+skip-requires c κs = (c .before .before .before .before .before .pre .1, c .before .lists .inv .2)
 
 lists-less : tie.Need-lists-less Inv-loop μ-loop Inv-lists μ-lists
 lists-less c = search needs
@@ -44,8 +41,8 @@ lists-again : tie.Need-lists-again Inv-loop μ-loop Inv-lists μ-lists
 lists-again c =
     let s = c .before .before .before .before .before .before .before in
     let o = c .before .before .before .lists in
-    let h = c .before .before .lists-test .taken in
-    (o .inv .0, o .inv .1, omega (arith, h), list-empty (arenaWords (s .args .a .now)) (s .args .r .now) (o .m) (o .i) _ h (o .inv .3) (c .before .empty .ensures) (c .if1 .taken))
+    let k = c .before .skip .ensures in
+    (o .inv .0, o .inv .1, k .high, list-skip (arenaWords (s .args .a .now)) (s .args .r .now) (o .m) (o .i) _ k (o .inv .3))
 
 kind-at-requires : tie.Need-kind-at-requires Inv-loop μ-loop Inv-lists μ-lists
 kind-at-requires c κs = search needs
@@ -130,8 +127,8 @@ loop-again c =
 may-end-requires : tie.Need-may-end-requires Inv-loop μ-loop Inv-lists μ-lists
 may-end-requires c κs = (c .before .before .before .before .before .before .before .before .before .before .before .before .pre .1, kind-words _ _ (c .before .before .before .before .kind-at .ensures) (c .before .before .before .before .before .before .before .lists-test .taken) .1)
 
-add-i-2 : tie.Need-add-i-2 Inv-loop μ-loop Inv-lists μ-lists
-add-i-2 c = search needs
+add-i : tie.Need-add-i Inv-loop μ-loop Inv-lists μ-lists
+add-i c = search needs
 
 lists-less-2 : tie.Need-lists-less-2 Inv-loop μ-loop Inv-lists μ-lists
 lists-less-2 c = search needs
@@ -192,8 +189,7 @@ list-fault-spec =
     Inv-lists
     μ-lists
     lists-holds
-    empty-requires
-    add-i
+    skip-requires
     lists-less
     lists-again
     kind-at-requires
@@ -210,7 +206,7 @@ list-fault-spec =
     loop-less
     loop-again
     may-end-requires
-    add-i-2
+    add-i
     lists-less-2
     lists-again-2
     same-length

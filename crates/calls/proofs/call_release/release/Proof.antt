@@ -45,7 +45,7 @@ returns-3 : tie.Need-returns-3
 returns-3 c =
     let s = c .before .before .before .before .before .before .before .before .before .before .before .before .before .before in
     let k : Came (s .args .arena .now) (s .args .control .now) _ = record { long = c .before .before .before .before .before .before .before .before .before .before .before .if1 .left; allowed = sym (c .before .before .before .before .before .before .before .before .before .before .allowed .ensures) ∙ not-false _ (c .before .before .before .before .before .before .before .before .before .if2 .left); small = λ i. omega (arith, c .before .before .before .before .before .before .before .before .before .before .before .before .slice-known2 .given i); words = c .before .before .before .before .before .before .read-words .ensures } in
-    release-refused _ _ _ _ _ k (c .before .before .look-at .ensures) (c .enum-told .given .1)
+    release-refused _ _ _ _ _ _ k (c .before .before .look-at .ensures) (c .enum-told .given .1)
 
 enum-told-2 : tie.Need-enum-told-2
 enum-told-2 c = search needs

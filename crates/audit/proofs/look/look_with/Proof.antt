@@ -1,10 +1,10 @@
 -- `look_with`: the audit, and then what its marks say of the block. Assumes nothing.
 use mathlib.Core.Path.{sym, _∙_}
 use borrow.Author.Tests.{not-true, not-false}
-use Rattle.calls.specs.Looks.{look-unsound, look-live, look-dead}
+use Rattle.audit.specs.Looks.{look-faulty, look-live, look-dead}
 use borrow.Author.Needs.{needs}
-use Rattle.calls.proofs.call_release.look_with.Statement.{statement}
-use Rattle.calls.proofs.call_release.look_with.Tie as tie
+use Rattle.audit.proofs.look.look_with.Statement.{statement}
+use Rattle.audit.proofs.look.look_with.Tie as tie
 
 audit-marks-requires : tie.Need-audit-marks-requires
 audit-marks-requires c κs = search needs
@@ -16,7 +16,7 @@ same-length : tie.Need-same-length
 same-length c = search needs
 
 returns : tie.Need-returns
-returns c = look-unsound _ _ _ _ _ (c .before .before .before .before .audit-marks .ensures) (sym (c .before .is-sound .ensures) ∙ not-true _ (c .if1 .taken))
+returns c = look-faulty _ _ _ _ _ (c .before .before .before .before .audit-marks .ensures) (sym (c .before .is-sound .ensures) ∙ not-true _ (c .if1 .taken))
 
 is-live-requires : tie.Need-is-live-requires
 is-live-requires c κs = search needs

@@ -2,8 +2,8 @@
 use borrow.Author.Tests.{le-leb, lt-leb}
 use Rattle.machine.specs.Lists.{both}
 use borrow.Author.Needs.{needs}
-use Rattle.calls.proofs.call_release.is_live.Statement.{statement}
-use Rattle.calls.proofs.call_release.is_live.Tie as tie
+use Rattle.audit.proofs.look.is_live.Statement.{statement}
+use Rattle.audit.proofs.look.is_live.Tie as tie
 
 returns : tie.Need-returns
 returns c = rw (lt-leb 16 _ (c .if1 .taken), both)

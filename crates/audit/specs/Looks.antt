@@ -1,4 +1,4 @@
--- What a release finds before it writes: the heap unsound, or the block live or not. Assumes nothing.
+-- What a call finds before it writes: a fault, or in a sound heap the block live or not. Assumes nothing.
 use mathlib.Core.Path.{_≡_, refl, sym, ap, _∙_}
 use mathlib.Core.Bool.{Bool, true, false}
 use mathlib.Core.List.{List}
@@ -12,43 +12,35 @@ use Rattle.machine.specs.Audit.{sound?, auditOf}
 use Rattle.machine.specs.declared.Audited.{Audited}
 use Rattle.machine.specs.declared.Audited.the-variants as A
 use Rattle.audit_leaves.specs.Leaves.{unmet}
+use Rattle.audit.specs.Tests.{is-sound}
 use Rattle.audit.specs.Marks.{AuditDone}
-use Rattle.calls.specs.declared.call_release.Look.{Look}
-use Rattle.calls.specs.declared.call_release.Look.the-variants.{Unsound, NotLive, Live}
+use Rattle.audit.specs.declared.look.Look.{Look}
+use Rattle.audit.specs.declared.look.Look.the-variants.{Faulty, NotLive, Live}
 
 -- whether mem is a live block's: tested in 64 bits, never cut
 abbrev pub liveMem? : List ℕ → List ℕ → ℕ → Bool
 liveMem? w r m = both (leb 16 m) (live? (view w r) (m - 16))
 
 unfoldable pub lookAt : List ℕ → List ℕ → ℕ → Look
-lookAt w r m = elim (sound? (auditOf w r)) [ true ↦ elim (liveMem? w r m) [ true ↦ Live | false ↦ NotLive ] | false ↦ Unsound ]
+lookAt w r m = elim (sound? (auditOf w r)) [ true ↦ elim (liveMem? w r m) [ true ↦ Live | false ↦ NotLive ] | false ↦ Faulty (auditOf w r) ]
 
-no-yes : {B : Type 0} → _≡_ {A = Bool} false true → B
-no-yes e = absurd (let z : _≡_ {A = ℕ} 0 1 = cc in omega arith)
-
-pub sound-is : (x : Audited) → sound? x ≡ true → x ≡ A.Sound
-sound-is A.Sound e = refl
-sound-is A.Record e = no-yes e
-sound-is (A.Tile o) e = no-yes e
-sound-is (A.List k) e = no-yes e
-sound-is (A.Flag o) e = no-yes e
-sound-is A.Shape e = no-yes e
-
-pub look-unsound : (w r : List ℕ) (f : Audited) (m : List ℕ) (mem : ℕ) → AuditDone w r f m → sound? f ≡ false → Unsound ≡ lookAt w r mem
+-- ---- what a look answers
+pub look-faulty : (w r : List ℕ) (f : Audited) (m : List ℕ) (mem : ℕ) → AuditDone w r f m → sound? f ≡ false → Faulty f ≡ lookAt w r mem
 unfolding lookAt
-look-unsound w r f m mem d e =
-    ap (λ (t : Bool). elim t [ true ↦ elim (liveMem? w r mem) [ true ↦ Live | false ↦ NotLive ] | false ↦ Unsound ]) (sym (ap sound? (sym (d .is)) ∙ e))
+look-faulty w r f m mem d e =
+    ap Faulty (d .is)
+    ∙ ap (λ (t : Bool). elim t [ true ↦ elim (liveMem? w r mem) [ true ↦ Live | false ↦ NotLive ] | false ↦ Faulty (auditOf w r) ]) (sym (ap sound? (sym (d .is)) ∙ e))
 
 -- what the marks say of mem, in a sound heap
 live-marks : (w r : List ℕ) (f : Audited) (m : List ℕ) (mem : ℕ) → AuditDone w r f m → sound? f ≡ true → both (leb 16 mem) (unmet m (mem - 16)) ≡ liveMem? w r mem
-live-marks w r f m mem d e = ap (both (leb 16 mem)) (d .live (sound-is f e) (mem - 16))
+live-marks w r f m mem d e = ap (both (leb 16 mem)) (d .live (is-sound f e) (mem - 16))
 
 look-sound : (w r : List ℕ) (f : Audited) (m : List ℕ) (mem : ℕ) (t : Bool) → AuditDone w r f m → sound? f ≡ true → t ≡ both (leb 16 mem) (unmet m (mem - 16))
     → elim t [ true ↦ Live | false ↦ NotLive ] ≡ lookAt w r mem
 unfolding lookAt
 look-sound w r f m mem t d e q =
     ap (λ (x : Bool). elim x [ true ↦ Live | false ↦ NotLive ]) (q ∙ live-marks w r f m mem d e)
-    ∙ ap (λ (t : Bool). elim t [ true ↦ elim (liveMem? w r mem) [ true ↦ Live | false ↦ NotLive ] | false ↦ Unsound ]) (sym (ap sound? (sym (d .is)) ∙ e))
+    ∙ ap (λ (t : Bool). elim t [ true ↦ elim (liveMem? w r mem) [ true ↦ Live | false ↦ NotLive ] | false ↦ Faulty (auditOf w r) ]) (sym (ap sound? (sym (d .is)) ∙ e))
 
 pub look-live : (w r : List ℕ) (f : Audited) (m : List ℕ) (mem : ℕ) (t : Bool) → AuditDone w r f m → sound? f ≡ true → t ≡ both (leb 16 mem) (unmet m (mem - 16)) → t ≡ true
     → Live ≡ lookAt w r mem
@@ -59,11 +51,11 @@ pub look-dead : (w r : List ℕ) (f : Audited) (m : List ℕ) (mem : ℕ) (t : B
 look-dead w r f m mem t d e q z = ap (λ (x : Bool). elim x [ true ↦ Live | false ↦ NotLive ]) (sym z) ∙ look-sound w r f m mem t d e q
 
 -- ---- what a look tells
-pub look-is-unsound : (w r : List ℕ) (mem : ℕ) → Unsound ≡ lookAt w r mem → sound? (auditOf w r) ≡ false
+pub look-is-faulty : (w r : List ℕ) (f : Audited) (mem : ℕ) → Faulty f ≡ lookAt w r mem → sound? (auditOf w r) ≡ false
 unfolding lookAt
-look-is-unsound w r mem e = go (sound? (auditOf w r)) (liveMem? w r mem) e
+look-is-faulty w r f mem e = go (sound? (auditOf w r)) (liveMem? w r mem) e
   where
-    go : (s t : Bool) → Unsound ≡ elim s [ true ↦ elim t [ true ↦ Live | false ↦ NotLive ] | false ↦ Unsound ] → s ≡ false
+    go : (s t : Bool) → Faulty f ≡ elim s [ true ↦ elim t [ true ↦ Live | false ↦ NotLive ] | false ↦ Faulty (auditOf w r) ] → s ≡ false
     go true true e = absurd (let z : _≡_ {A = ℕ} 0 1 = cc in omega arith)
     go true false e = absurd (let z : _≡_ {A = ℕ} 0 1 = cc in omega arith)
     go false t e = refl
@@ -72,7 +64,7 @@ pub look-is-live : (w r : List ℕ) (mem : ℕ) → Live ≡ lookAt w r mem → 
 unfolding lookAt
 look-is-live w r mem e = go (sound? (auditOf w r)) (liveMem? w r mem) e
   where
-    go : (s t : Bool) → Live ≡ elim s [ true ↦ elim t [ true ↦ Live | false ↦ NotLive ] | false ↦ Unsound ] → (s ≡ true) × (t ≡ true)
+    go : (s t : Bool) → Live ≡ elim s [ true ↦ elim t [ true ↦ Live | false ↦ NotLive ] | false ↦ Faulty (auditOf w r) ] → (s ≡ true) × (t ≡ true)
     go true true e = (refl, refl)
     go true false e = absurd (let z : _≡_ {A = ℕ} 0 1 = cc in omega arith)
     go false t e = absurd (let z : _≡_ {A = ℕ} 0 1 = cc in omega arith)
@@ -81,7 +73,22 @@ pub look-is-dead : (w r : List ℕ) (mem : ℕ) → NotLive ≡ lookAt w r mem �
 unfolding lookAt
 look-is-dead w r mem e = go (sound? (auditOf w r)) (liveMem? w r mem) e
   where
-    go : (s t : Bool) → NotLive ≡ elim s [ true ↦ elim t [ true ↦ Live | false ↦ NotLive ] | false ↦ Unsound ] → (s ≡ true) × (t ≡ false)
+    go : (s t : Bool) → NotLive ≡ elim s [ true ↦ elim t [ true ↦ Live | false ↦ NotLive ] | false ↦ Faulty (auditOf w r) ] → (s ≡ true) × (t ≡ false)
     go true true e = absurd (let z : _≡_ {A = ℕ} 0 1 = cc in omega arith)
     go true false e = (refl, refl)
     go false t e = absurd (let z : _≡_ {A = ℕ} 0 1 = cc in omega arith)
+
+-- ---- the audit's answer in a look
+abbrev pub faultIn : Look → Audited
+faultIn (Faulty f) = f
+faultIn NotLive = A.Sound
+faultIn Live = A.Sound
+
+pub fault-in-look : (w r : List ℕ) (mem : ℕ) (l : Look) → l ≡ lookAt w r mem → faultIn l ≡ auditOf w r
+unfolding lookAt
+fault-in-look w r mem l e = ap faultIn e ∙ go (sound? (auditOf w r)) (liveMem? w r mem) (is-sound (auditOf w r))
+  where
+    go : (s t : Bool) → (s ≡ true → auditOf w r ≡ A.Sound) → faultIn (elim s [ true ↦ elim t [ true ↦ Live | false ↦ NotLive ] | false ↦ Faulty (auditOf w r) ]) ≡ auditOf w r
+    go true true e = sym (e refl)
+    go true false e = sym (e refl)
+    go false t e = refl
