@@ -11,39 +11,29 @@ use lib.ListN.{length, set}
 use borrow.Author.Tests.{lt-ltb, le-ltb}
 use Rattle.le.specs.Arena.{arenaWords}
 use Rattle.sizes.specs.Limits.{leastChunk, unsorted}
-use Rattle.sizes.specs.Layout.{topWord, remainderWord}
+use Rattle.sizes.specs.Layout.{remainderWord}
 use Rattle.sizes.specs.Sizes.{binOf}
 use Rattle.machine.specs.Lists.{cnt}
 use Rattle.machine.specs.Count.{ind-same, ind-other, cnt-le-all}
-use Rattle.machine.specs.Heap.{Tile, tile, Heap, bin, withTiles, endFrom, startsFrom, topOf, starts, sizeOf, next, total, recordOf}
-use Rattle.machine.specs.Writes.{Write, size, note, put, apply, Ran, ran, heapOf, does, more, _>>=_}
+use Rattle.machine.specs.Heap.{Tile, tile, Heap, bin, withTiles, endFrom, startsFrom, topOf, starts, sizeOf, next, total}
+use Rattle.machine.specs.Writes.{Write, size, note, put, apply, heapOf, does, more, _>>=_}
 use Rattle.machine.specs.Primitives.{putFirst, unlink, setP, setNote, setRemainder}
 use Rattle.machine.specs.Grant.{split, carve, step8}
 use Rattle.machine.specs.View.{sizeAt}
 use Rattle.machine.specs.declared.{Got.Got, Got.the-variants.At}
 use Rattle.sound.specs.Relation.{fits, Mem, Shape, Loose, Good}
 use Rattle.sound.specs.Tiles.{fits-split, end-append, starts-append, none-out, Place, place, zero-or, lt-or-le}
-use Rattle.sound.specs.Frames.{starts-all, apply-append}
+use Rattle.sound.specs.Frames.{starts-all}
 use Rattle.sound.specs.Lists.{unlink-shape, unlink-loose, unlink-mem}
 use Rattle.sound.specs.Edits.{size-at, Kept, fits-tiles, note-is, note-kept, cut-is, cut-kept, size-place, size-16}
 use Rattle.sound.specs.Carve.{take-out, split-is}
-use Rattle.sound.specs.RecordOf.{record-top, record-withTiles, record-withRemainder, set-id}
+use Rattle.sound.specs.RecordOf.{record-withRemainder, record-tiles}
 use Rattle.fields.specs.Follow.{Ok, Has, Gave, Does}
-use Rattle.fields.specs.FollowLaws.{gave-by, gave-then, gave-giving, gave-ok}
+use Rattle.fields.specs.FollowLaws.{gave-by, gave-then, gave-more, gave-giving, gave-ok}
 use Rattle.prims.specs.Places.{Home}
 use Rattle.prims.specs.Chunks.{in-bytes, start-chunk, loose-chunk}
 use Rattle.prims.specs.Sizes.{chunk-says, set-p-gave}
 use Rattle.cuts.specs.Taken.{Taken, Fit}
-
--- other tiles with the same end leave the record as it is
-record-tiles : (h : Heap) (ts : List Tile) → Shape h → endFrom 0 ts ≡ topOf h → recordOf (withTiles ts h) ≡ recordOf h
-record-tiles h ts s e =
-    record-withTiles h ts ∙ ap (set (recordOf h) topWord) e
-    ∙ set-id (recordOf h) topWord (topOf h) (record-top h (s .stacked74) (s .binned127))
-
--- writes, and then a step
-gave-more : {A : Type 0} (ws : List Write) (s : Ran A) (g : A) (w v q : List ℕ) → Gave A s g (apply ws w) v q → Gave A (more ws s) g w v q
-gave-more ws (ran h vs a) g w v q m = record { says = m .says; bytes = m .bytes ∙ sym (apply-append ws vs w); rec = m .rec }
 
 -- ---- the tiles around a chunk that is out of its bin
 pub record Around (h : Heap) (c z : ℕ) : Type 0 where
@@ -167,7 +157,7 @@ module _ (h : Heap) (w r : List ℕ) (c z b : ℕ) (o : Ok h w r) (T : Taken h c
       let p = putFirst unsorted (c + b) (K .heap) in
       let vs : List Write = note (c + z) (z - b) ∷ [] in
       let ws : List Write = size c b 1 ∷ size (c + b) (z - b) 1 ∷ [] in
-      gave-by (K .is) (gave-more ws (more vs p) tt w v q (gave-more vs p tt (apply ws w) v q
+      gave-by (K .is) (gave-more ws (more vs p) tt refl (gave-more vs p tt refl
       (subst (λ (u : List ℕ). Gave (Unit {0}) p tt u v q) e (d .does (K .heap) (subst (λ (u : List ℕ). Ok (K .heap) u r) (sym e) (K .ok)) (K .loose)))))
 
 -- ---- carve, by its tests

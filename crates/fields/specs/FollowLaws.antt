@@ -1,14 +1,17 @@
--- Steps that were followed one after the other were followed as one. Assumes nothing.
+-- Steps that were followed one after the other were followed as one; what the record says of the heap. Assumes nothing.
 use mathlib.Core.Path.{_≡_, refl, sym, ap, _∙_, subst}
 use mathlib.Core.List.{List, []}
 use Prim.Native.Nat.{ℕ}
 use native.Mathlib.Omega.{arith}
-use Rattle.machine.specs.Heap.{Heap, recordOf}
-use Rattle.machine.specs.Writes.{Ran, ran, heapOf, writes, apply, giving, more, _>>=_, _orElse_}
+use lib.ListN.{getD}
+use Rattle.sizes.specs.Layout.{lengthWord, topWord}
+use Rattle.machine.specs.Heap.{Heap, topOf, recordOf}
+use Rattle.machine.specs.Writes.{Write, Ran, ran, heapOf, writes, apply, giving, more, _>>=_, _orElse_}
 use Rattle.machine.specs.declared.{Got.Got, Got.the-variants.At, Got.the-variants.Nothing}
 use Rattle.sound.specs.Relation.{Shape, Mem, Good}
 use Rattle.sound.specs.Frames.{apply-append}
 use Rattle.sound.specs.Ends.{Ends}
+use Rattle.sound.specs.RecordOf.{record-len, record-top}
 use Rattle.fields.specs.Follow.{Ok, Has, Gave}
 
 -- nothing written, and the answer g
@@ -29,6 +32,10 @@ gave-then (ran h ws x) f a b {w} {v} {q} {v′} {q′} m n = go (f h) n
       bytes = k .bytes ∙ ap (apply vs) (m .bytes) ∙ sym (apply-append ws vs w);
       rec = k .rec;
     }
+
+-- what was written before a step, and the step
+pub gave-more : {A : Type 0} (ws : List Write) (s : Ran A) (g : A) {w₀ w v q : List ℕ} → w ≡ apply ws w₀ → Gave A s g w v q → Gave A (more ws s) g w₀ v q
+gave-more ws (ran h vs a) g {w₀} e m = record { says = m .says; bytes = m .bytes ∙ ap (apply vs) e ∙ sym (apply-append ws vs w₀); rec = m .rec }
 
 -- another answer
 pub gave-giving : {A B : Type 0} (s : Ran A) (a : A) (b : B) {w v q : List ℕ} → Gave A s a w v q → Gave B (giving b s) b w v q
@@ -53,3 +60,11 @@ gave-ok s g sh me m = record { shape = sh; mem = subst (Mem (heapOf s)) (sym (m 
 
 pub gave-good : {A : Type 0} (s : Ran A) (g : A) {w v q : List ℕ} → Ends s w Good → Gave A s g w v q → Has Good v q
 gave-good s g e m = record { heap = heapOf s; ok = gave-ok s g (e .now .shape) (e .mem) m; holds = e .now }
+
+-- ---- the record's length and top are the heap's
+module _ (h : Heap) (w r : List ℕ) (o : Ok h w r) where
+  pub ok-len : getD r lengthWord 0 ≡ h .len
+  ok-len = ap (λ (r : List ℕ). getD r lengthWord 0) (o .rec) ∙ record-len h (o .shape .stacked74) (o .shape .binned127)
+
+  pub ok-top : getD r topWord 0 ≡ topOf h
+  ok-top = ap (λ (r : List ℕ). getD r topWord 0) (o .rec) ∙ record-top h (o .shape .stacked74) (o .shape .binned127)

@@ -8,7 +8,14 @@ ghost use Rattle.sizes.specs.Layout.{prevWord, sizeWord, fwdWord, backWord};
 ghost use Rattle.machine.specs.Writes.{size, note, fwd, back, put};
 ghost use Rattle.machine.specs.View.{sizeAt};
 
-// The size of the chunk at c, and its P.
+// The size word of the chunk at c, and what stands in it: the size, and P.
+pub fn size_word_at(a: &[u8], c: u64) -> u64
+    requires { ⌜ (c % 8 ≡ 0) × (c + 16 ≤ length (now a)) ⌝ }
+    ensures { λ r. ⌜ r ≡ getD (arenaWords (now (a .entry))) (sizeWord c) 0 ⌝ }
+{
+    le::word(a, (c + 8) as usize)
+}
+
 pub fn size_at(a: &[u8], c: u64) -> u64
     requires { ⌜ (c % 8 ≡ 0) × (c + 16 ≤ length (now a)) ⌝ }
     ensures { λ r. ⌜ r ≡ sizeAt (arenaWords (now (a .entry))) c ⌝ }

@@ -1,11 +1,14 @@
 -- Join as the code does it follows the machine: with the chunk before taken in or not. Between its parts the heap is open, by the laws of the machine's join.
 -- Assumes nothing.
 use mathlib.Core.Path.{_≡_, refl, sym, ap, _∙_, subst}
+use mathlib.Core.Bool.{true, false}
 use mathlib.Core.List.{List, [], _∷_, _++_}
 use Prim.Native.Nat.{ℕ, _+_, _-_, _%_, _≤_}
 use native.Mathlib.Omega.{arith}
 use lib.ListN.{getD}
+use borrow.Author.Tests.{eqb-true, eqb-false}
 use Rattle.sizes.specs.Layout.{prevWord, sizeWord}
+use Rattle.sizes.specs.SizeWord.{pOfWord}
 use Rattle.machine.specs.Lists.{lst}
 use Rattle.machine.specs.Heap.{Tile, Heap, endFrom, startsFrom, topSize, sizeOf, pOf, before, binned, total}
 use Rattle.machine.specs.Writes.{size, note, heapOf, does, _>>=_}
@@ -20,7 +23,7 @@ use Rattle.sound.specs.Join.{Joined, Opened, next-ends, Before, before-of, lst-
 use Rattle.fields.specs.Follow.{Ok, Has, Gave, Does}
 use Rattle.fields.specs.FollowLaws.{gave-by, gave-then, gave-ok}
 use Rattle.joins.specs.Reads.{Reads, reads, loose-reads}
-use Rattle.joins.specs.States.{Taking, Open}
+use Rattle.joins.specs.States.{Taking, Open, joinRest}
 use Rattle.joins.specs.Parts.{home-of}
 
 -- ---- joined with the chunk after, and put down
@@ -40,7 +43,7 @@ module _ (h : Heap) (w r : List ℕ) (c : ℕ) (o : Ok h w r) (O : Open h c) {v 
   pub next-has : Has (λ h. Open h c) v q
   next-has = record { heap = heapOf (joinNext c h); ok = next-ok; holds = next-open .now }
 
-  pub rest-gave : {v′ q′ : List ℕ} {s : ℕ} → Does ℕ (λ h. Open h c) (putDown c) v q s v′ q′ → Gave ℕ (joinNext c h >>= (λ h₂. putDown c h₂)) s w v′ q′
+  pub rest-gave : {v′ q′ : List ℕ} {s : ℕ} → Does ℕ (λ h. Open h c) (putDown c) v q s v′ q′ → Gave ℕ (joinRest c h) s w v′ q′
   rest-gave {v′} {q′} {s} D = gave-then (joinNext c h) (λ h₂. putDown c h₂) tt s next-gave (D .does (heapOf (joinNext c h)) next-ok (next-open .now))
 
 -- the chunk before c, of size d, and c, of size z: it takes c in, which leaves it open, and the join goes on with it
@@ -48,15 +51,15 @@ pub record Behind (h : Heap) (w : List ℕ) (c d z : ℕ) : Type 0 where
   pub low : d ≤ c
   pub small : d + z ≤ 262144
   pub taking : Taking h (c - d) d (c - d) (d + z)
-  pub is : join c h ≡ (absorb (c - d) (c - d) h >>= (λ h₁. joinNext (c - d) h₁ >>= (λ h₂. putDown (c - d) h₂)))
+  pub is : join c h ≡ (absorb (c - d) (c - d) h >>= joinRest (c - d))
   pub ends : Ends (absorb (c - d) (c - d) h) w (λ g. Open g (c - d))
 
 last-size : (s : ℕ) (a : List Tile) (u : Tile) → lastS s (a ++ u ∷ []) ≡ u .size
 last-size s [] u = refl
 last-size s (t ∷ a) u = last-size (t .size) a u
 
--- ---- the whole join of a loose c, whose P is p
-module _ (h : Heap) (w r : List ℕ) (c p : ℕ) (o : Ok h w r) (g : Good h) (lo : Loose h c) (ep : p ≡ getD w (sizeWord c) 0 % 2) where
+-- ---- the whole join of a loose c, whose size word is y
+module _ (h : Heap) (w r : List ℕ) (c y : ℕ) (o : Ok h w r) (g : Good h) (lo : Loose h c) (ey : y ≡ getD w (sizeWord c) 0) where
   abbrev at : Place (h .tiles) 0 c
   at = loose-reads h w r o c lo .place
 
@@ -69,33 +72,38 @@ module _ (h : Heap) (w r : List ℕ) (c p : ℕ) (o : Ok h w r) (g : Good h) (lo
   fit : fits (at .a) × fits (at .t ∷ at .z)
   fit = fits-split (at .a) (at .t ∷ at .z) (subst fits (at .tiles) (fits-tiles h (g .shape)))
 
-  p-is : pOf h c ≡ p
-  p-is = loose-reads h w r o c lo .p ∙ sym ep
+  p-is : pOf h c ≡ y % 2
+  p-is = loose-reads h w r o c lo .p ∙ ap (λ (y : ℕ). y % 2) (sym ey)
 
   -- P is set
-  pub join-open : (p ≡ 0 → ⊥) → Open h c
-  join-open n = record {
-    a = at .a;
-    n = topSize h;
-    at = at .at;
-    now = record { t = at .t; r = at .z; gap = gap-here h w (at .a) (at .z) (at .t) (at .tiles) g none (omega (arith, at-reads .p, at-reads .bit)) };
-  }
+  module _ (e : pOfWord y ≡ true) where
+    p-set : y % 2 ≡ 1
+    p-set = eqb-true (y % 2) 1 e
 
-  pub join-here-gave : {v q v′ q′ : List ℕ} {s : ℕ} → (p ≡ 0 → ⊥) → Does (Unit {0}) (λ h. Open h c) (joinNext c) w r tt v q
-      → Does ℕ (λ h. Open h c) (putDown c) v q s v′ q′
-      → Gave ℕ (join c h) s w v′ q′
-  join-here-gave n N D = gave-by (join-here c h (λ e. n (sym p-is ∙ e))) (rest-gave h w r c o (join-open n) N D)
+    pub join-open : Open h c
+    join-open = record {
+      a = at .a;
+      n = topSize h;
+      at = at .at;
+      now = record { t = at .t; r = at .z; gap = gap-here h w (at .a) (at .z) (at .t) (at .tiles) g none (omega (arith, at-reads .p, p-set)) };
+    }
+
+    pub join-here-gave : {v q : List ℕ} {s : ℕ} → Does ℕ (λ h. Open h c) (joinRest c) w r s v q → Gave ℕ (join c h) s w v q
+    join-here-gave D = gave-by (join-here c h (λ q. omega (arith, p-is, p-set))) (D .does h o join-open)
 
   -- P is clear, and d is noted
-  module _ (d z : ℕ) (e : p ≡ 0) (ed : d ≡ getD w (prevWord c) 0) (ez : z ≡ sizeAt w c) where
+  module _ (d z : ℕ) (e : pOfWord y ≡ false) (ed : d ≡ getD w (prevWord c) 0) (ez : z ≡ sizeAt w c) where
+    p-clear : y % 2 ≡ 0
+    p-clear = omega (arith, eqb-false (y % 2) 1 e)
+
     pub behind : Behind h w c d z
-    behind = go (before-of (λ x. binned h x) (at .a) (omega (arith, open-flags h w (at .a) (at .z) (at .t) (at .tiles) g none .1 .0, at-reads .p)))
+    behind = go (before-of (λ x. binned h x) (at .a) (omega (arith, open-flags h w (at .a) (at .z) (at .t) (at .tiles) g none .1 .0, at-reads .p, p-clear)))
       where
         go : Before (λ x. binned h x) 0 (at .a) → Behind h w c d z
         go B =
             let a : List Tile = at .a in
             let t : Tile = at .t in
-            let tp : t .p ≡ 0 = omega (arith, at-reads .p) in
+            let tp : t .p ≡ 0 = omega (arith, at-reads .p, p-clear) in
             let x : ℕ = endFrom 0 (B .a₀) in
             let ex : endFrom 0 a ≡ x + B .s .size = ap (endFrom 0) (B .tiles) ∙ snoc-end (B .a₀) (B .s) in
             let es : d ≡ B .s .size = ed ∙ at-reads .note tp ∙ open-flags h w a (at .z) t (at .tiles) g none .1 .2 .0 tp ∙ ap (lastS 0) (B .tiles)
@@ -121,14 +129,14 @@ module _ (h : Heap) (w r : List ℕ) (c p : ℕ) (o : Ok h w r) (g : Good h) (lo
                 home = home-of h (c - d) d (g .homes) (omega (arith, ap (λ (x : ℕ). binned h x) eq, B .was))
                     (ap (sizeOf h) eq ∙ size-at h (B .a₀) (t ∷ at .z) (B .s) e₀ (f .0) ∙ sym es);
               };
-              is = join-prev c (c - d) h (p-is ∙ e) eb;
+              is = join-prev c (c - d) h (p-is ∙ p-clear) eb;
               ends = subst (λ (x : ℕ). Ends (absorb x x h) w (λ g. Open g (c - d))) (sym eq)
                   (ends-weaken (absorb x x h) w (λ g. Opened g (B .a₀) (topSize h)) (λ g. Open g (c - d))
                   (λ g O. record { a = B .a₀; n = topSize h; at = eq; now = O })
                   (prev-ends h w a (at .z) t (at .tiles) g none (B .a₀) (B .s) (B .tiles) (B .was) (o .mem)));
             }
 
--- the chunk before is taken in, and the whole joined with the chunk after and put down
+-- the chunk before is taken in, and the join goes on with the whole
 module _ (h : Heap) (w r : List ℕ) (c d z : ℕ) (o : Ok h w r) (B : Behind h w c d z) {v q : List ℕ}
     (A : Does (Unit {0}) (λ h. Taking h (c - d) d (c - d) (d + z)) (absorb (c - d) (c - d)) w r tt v q) where
   absorbed-ok : Ok (heapOf (absorb (c - d) (c - d) h)) v q
@@ -137,8 +145,7 @@ module _ (h : Heap) (w r : List ℕ) (c d z : ℕ) (o : Ok h w r) (B : Behind h 
   pub absorbed-has : Has (λ h. Open h (c - d)) v q
   absorbed-has = record { heap = heapOf (absorb (c - d) (c - d) h); ok = absorbed-ok; holds = B .ends .now }
 
-  pub join-prev-gave : {v₁ q₁ v₂ q₂ : List ℕ} {s : ℕ} → Does (Unit {0}) (λ h. Open h (c - d)) (joinNext (c - d)) v q tt v₁ q₁
-      → Does ℕ (λ h. Open h (c - d)) (putDown (c - d)) v₁ q₁ s v₂ q₂ → Gave ℕ (join c h) s w v₂ q₂
-  join-prev-gave {v₁} {q₁} {v₂} {q₂} {s} N D =
-      gave-by (B .is) (gave-then (absorb (c - d) (c - d) h) (λ h₁. joinNext (c - d) h₁ >>= (λ h₂. putDown (c - d) h₂)) tt s (A .does h o (B .taking))
-      (rest-gave (heapOf (absorb (c - d) (c - d) h)) v q (c - d) absorbed-ok (B .ends .now) N D))
+  pub join-prev-gave : {v′ q′ : List ℕ} {s : ℕ} → Does ℕ (λ h. Open h (c - d)) (joinRest (c - d)) v q s v′ q′ → Gave ℕ (join c h) s w v′ q′
+  join-prev-gave {v′} {q′} {s} D =
+      gave-by (B .is) (gave-then (absorb (c - d) (c - d) h) (joinRest (c - d)) tt s (A .does h o (B .taking))
+      (D .does (heapOf (absorb (c - d) (c - d) h)) absorbed-ok (B .ends .now)))

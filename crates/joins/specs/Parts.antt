@@ -3,32 +3,34 @@
 use mathlib.Core.Path.{_≡_, refl, sym, ap, _∙_, subst}
 use mathlib.Core.List.{List, [], _∷_, _++_}
 use mathlib.Core.Logic.{inl, inr, ⊎-elim}
-use Prim.Native.Nat.{ℕ, _+_, _-_, _*_, _%_, _≤_}
+use Prim.Native.Nat.{ℕ, _+_, _-_, _*_, _%_, _≤_, _<_}
 use native.Mathlib.Omega.{arith}
 use lib.ListN.{length, getD, set}
+use lib.Seq.{getD-set-same}
 use Rattle.sizes.specs.Limits.{unsorted}
 use Rattle.sizes.specs.Sizes.{binOf}
 use Rattle.sizes.specs.Layout.{lengthWord, topWord, sizeWord}
 use Rattle.machine.specs.Lists.{cnt}
 use Rattle.machine.specs.Count.{eq?, ind-same}
 use Rattle.machine.specs.Heap.{Tile, tile, Heap, bin, withTiles, endFrom, topOf, topSize, sizeOf, next, binned, binHas}
-use Rattle.machine.specs.Writes.{Write, size, note, put, apply, Ran, heapOf, does, giving, _>>=_}
+use Rattle.machine.specs.Writes.{Write, size, note, put, apply, Ran, heapOf, writes, does, giving, _>>=_}
 use Rattle.machine.specs.Primitives.{putFirst, unlink, swallow, clearP, toTop}
 use Rattle.machine.specs.Release.{absorb, joinNext, putDown}
 use Rattle.machine.specs.View.{sizeAt}
 use Rattle.sound.specs.Relation.{fits, flags, Mem, Shape, Loose, Homes}
 use Rattle.sound.specs.Tiles.{zero-or, fits-split, end-le, end-append, starts-append}
+use Rattle.sound.specs.Frames.{apply-length}
 use Rattle.sound.specs.Lists.{unlink-shape}
 use Rattle.sound.specs.Edits.{size-at, snoc-end, snoc-tiles, top-mid, Kept, fits-tiles, swallow-is, clear-is, clear-kept, to-top-is}
 use Rattle.sound.specs.Flags.{flagsAfter}
 use Rattle.sound.specs.Join.{bin-has, Gap, next-no, next-yes, down-top, down-bin}
-use Rattle.sound.specs.RecordOf.{record-withTiles}
+use Rattle.sound.specs.RecordOf.{record-withTiles, record-tiles}
 use Rattle.fields.specs.Follow.{Ok, Has, Gave, Does}
-use Rattle.fields.specs.FollowLaws.{gave-none, gave-by, gave-then, gave-giving}
+use Rattle.fields.specs.FollowLaws.{gave-none, gave-by, gave-then, gave-giving, ok-len, ok-top}
 use Rattle.prims.specs.Places.{Home, Binned}
 use Rattle.prims.specs.Chunks.{Inside}
 use Rattle.prims.specs.Stacks.{ok-length}
-use Rattle.joins.specs.Reads.{Reads, reads, all-at, record-tiles, reads-inside, ok-len, ok-top, top-free}
+use Rattle.joins.specs.Reads.{Reads, reads, all-at, reads-inside, top-free}
 use Rattle.joins.specs.States.{Taking, Open}
 
 -- a binned chunk is in unsorted or in its size's bin
@@ -55,28 +57,39 @@ module _ (h : Heap) (w r : List ℕ) (x zx c s : ℕ) (o : Ok h w r) (T : Taking
   pub taking-inside : (m : ℕ) → 8 * length w ≤ m → Inside m c
   taking-inside m l = reads-inside m w c (T .t) l taking-reads
 
-  pub taking-small : s ≤ 262144
-  taking-small =
-      let k = reads h w r o (T .a ++ T .t ∷ []) (T .z ++ tile (topSize h) 1 0 ∷ []) (T .u)
-      (all-at h (T .a ++ T .t ∷ []) (T .u ∷ T .z) (T .tiles ∙ sym (snoc-tiles (T .a) (T .u ∷ T .z) (T .t)))) in
-      omega (arith, k .small, snoc-end (T .a) (T .t), T .whole)
+  taken-reads : Reads w (endFrom 0 (T .a ++ T .t ∷ [])) (T .u)
+  taken-reads = reads h w r o (T .a ++ T .t ∷ []) (T .z ++ tile (topSize h) 1 0 ∷ []) (T .u)
+      (all-at h (T .a ++ T .t ∷ []) (T .u ∷ T .z) (T .tiles ∙ sym (snoc-tiles (T .a) (T .u ∷ T .z) (T .t))))
 
-  pub absorb-gave : {v q v′ : List ℕ} → ((h : Heap) (j : ℕ) → Ok h w r → Home h j x zx → Gave (Unit {0}) (unlink j x h) tt w v q) → v′ ≡ put (size c s 1) v
-      → Gave (Unit {0}) (absorb x c h) tt w v′ q
-  unfolding absorb
-  absorb-gave {v} {q} {v′} u e =
-      let j : ℕ = binHas h x in
-      let h₁ : Heap = heapOf (unlink j x h) in
-      let U : Gave (Unit {0}) (unlink j x h) tt w v q = u h j o (T .home) in
-      let s₁ : Shape h₁ = unlink-shape h j x (o .shape) (T .home .here) in
-      let ts : List Tile = T .a ++ tile (T .t .size + T .u .size) 1 0 ∷ T .z in
-      let top : endFrom 0 ts ≡ topOf h₁ = top-mid h₁ (T .a) (T .t ∷ T .u ∷ []) (tile (T .t .size + T .u .size) 1 0 ∷ []) (T .z) (T .tiles) (omega arith) in
-      gave-then (unlink j x h) (λ g. swallow c g) tt tt U
-      (gave-by (ap (λ (c : ℕ). swallow c h₁) (T .at) ∙ swallow-is h₁ w (T .a) (T .z) (T .t) (T .u) (T .tiles) s₁) (record {
-        says = refl;
-        bytes = e ∙ ap (λ (c : ℕ). put (size c s 1) v) (T .at) ∙ ap (λ (s : ℕ). put (size (endFrom 0 (T .a)) s 1) v) (T .whole);
-        rec = U .rec ∙ sym (record-tiles h₁ ts s₁ top);
-      }))
+  pub taking-small : s ≤ 262144
+  taking-small = omega (arith, taken-reads .small, snoc-end (T .a) (T .t), T .whole)
+
+  module _ {v q v′ : List ℕ} (u : (h : Heap) (j : ℕ) → Ok h w r → Home h j x zx → Gave (Unit {0}) (unlink j x h) tt w v q) (e : v′ ≡ put (size c s 1) v) where
+    unlinked : Gave (Unit {0}) (unlink (binHas h x) x h) tt w v q
+    unlinked = u h (binHas h x) o (T .home)
+
+    pub absorb-gave : Gave (Unit {0}) (absorb x c h) tt w v′ q
+    unfolding absorb
+    absorb-gave =
+        let j : ℕ = binHas h x in
+        let h₁ : Heap = heapOf (unlink j x h) in
+        let s₁ : Shape h₁ = unlink-shape h j x (o .shape) (T .home .here) in
+        let ts : List Tile = T .a ++ tile (T .t .size + T .u .size) 1 0 ∷ T .z in
+        let top : endFrom 0 ts ≡ topOf h₁ = top-mid h₁ (T .a) (T .t ∷ T .u ∷ []) (tile (T .t .size + T .u .size) 1 0 ∷ []) (T .z) (T .tiles) (omega arith) in
+        gave-then (unlink j x h) (λ g. swallow c g) tt tt unlinked
+        (gave-by (ap (λ (c : ℕ). swallow c h₁) (T .at) ∙ swallow-is h₁ w (T .a) (T .z) (T .t) (T .u) (T .tiles) s₁) (record {
+          says = refl;
+          bytes = e ∙ ap (λ (c : ℕ). put (size c s 1) v) (T .at) ∙ ap (λ (s : ℕ). put (size (endFrom 0 (T .a)) s 1) v) (T .whole);
+          rec = unlinked .rec ∙ sym (record-tiles h₁ ts s₁ top);
+        }))
+
+    -- s, a sum of multiples of 16, is what is then read as c's size
+    pub absorb-size : sizeAt v′ c ≡ s
+    absorb-size =
+        let l : length v ≡ length w = ap length (unlinked .bytes) ∙ apply-length (writes (unlink (binHas h x) x h)) w in
+        let i : sizeWord c < length v = omega (arith, taking-reads .high, taking-reads .least, taking-reads .even) in
+        let k : getD v′ (sizeWord c) 0 ≡ s + 1 = ap (λ (v : List ℕ). getD v (sizeWord c) 0) e ∙ getD-set-same v (sizeWord c) (s + 1) 0 i in
+        omega (arith, T .whole, taking-reads .whole, taken-reads .whole)
 
 -- ---- what the code needs for its own safety, in m bytes of arena: c, of size z, and what stands after it
 pub record Nearby (m : ℕ) (w r : List ℕ) (c z : ℕ) : Type 0 where

@@ -1,4 +1,4 @@
--- What the words tell of a tile in its place, and the record of the heap: size, P and note as the code reads them, and how far a chunk reaches.
+-- What the words tell of a tile in its place: size, P and note as the code reads them, and how far a chunk reaches.
 -- By the tiles' words in parts. Assumes nothing.
 use mathlib.Core.Path.{_≡_, refl, sym, ap, _∙_, subst}
 use mathlib.Core.List.{List, [], _∷_, _++_, append-assoc}
@@ -8,14 +8,13 @@ use native.Mathlib.Omega.{arith}
 use lib.ListN.{length, getD}
 use Rattle.le.specs.Arena.{arenaWords}
 use Rattle.le.specs.ArenaLaws.{length-arenaWords}
-use Rattle.sizes.specs.Layout.{lengthWord, topWord, prevWord, sizeWord}
-use Rattle.machine.specs.Heap.{Tile, tile, Heap, withTiles, endFrom, since, hdSize, hdP, topOf, topSize, sizeOf, pOf, binned, recordOf}
+use Rattle.sizes.specs.Layout.{prevWord, sizeWord}
+use Rattle.machine.specs.Heap.{Tile, tile, Heap, endFrom, since, hdSize, hdP, topOf, topSize, sizeOf, pOf, binned}
 use Rattle.machine.specs.View.{sizeAt}
-use Rattle.sound.specs.Relation.{all, fits, tilesAt, Shape, Loose}
+use Rattle.sound.specs.Relation.{all, fits, tilesAt, Loose}
 use Rattle.sound.specs.Tiles.{fits-split, end-le, end-even, end-append, none-out, Place, place, tiles-split}
 use Rattle.sound.specs.Frames.{end-all}
 use Rattle.sound.specs.Edits.{tiles-at, fits-tiles}
-use Rattle.sound.specs.RecordOf.{record-len, record-top, record-withTiles, set-id}
 use Rattle.fields.specs.Follow.{Ok}
 use Rattle.prims.specs.Chunks.{Inside}
 
@@ -37,10 +36,6 @@ reads-inside m w c t l k = record { even = k .even; high = omega (arith, k .high
 pub all-at : (h : Heap) (a z : List Tile) → h .tiles ≡ a ++ z → all h ≡ a ++ (z ++ tile (topSize h) 1 0 ∷ [])
 all-at h a z e = ap (λ (l : List Tile). l ++ tile (topSize h) 1 0 ∷ []) e ∙ append-assoc a z (tile (topSize h) 1 0 ∷ [])
 
--- the heap with other tiles that end where its own do has the same record
-pub record-tiles : (h : Heap) (ts : List Tile) → Shape h → endFrom 0 ts ≡ topOf h → recordOf (withTiles ts h) ≡ recordOf h
-record-tiles h ts s e = record-withTiles h ts ∙ set-id (recordOf h) topWord (endFrom 0 ts) (record-top h (s .stacked74) (s .binned127) ∙ sym e)
-
 module _ (h : Heap) (w r : List ℕ) (o : Ok h w r) where
   pub reads : (a z : List Tile) (t : Tile) → all h ≡ a ++ t ∷ z → Reads w (endFrom 0 a) t
   reads a z t e =
@@ -60,12 +55,6 @@ module _ (h : Heap) (w r : List ℕ) (o : Ok h w r) where
         high = omega (arith, n, end-le (c + t .size) z, o .mem .long);
         small = omega (arith, n, end-le (c + t .size) z, s .small);
       }
-
-  pub ok-len : getD r lengthWord 0 ≡ h .len
-  ok-len = ap (λ (r : List ℕ). getD r lengthWord 0) (o .rec) ∙ record-len h (o .shape .stacked74) (o .shape .binned127)
-
-  pub ok-top : getD r topWord 0 ≡ topOf h
-  ok-top = ap (λ (r : List ℕ). getD r topWord 0) (o .rec) ∙ record-top h (o .shape .stacked74) (o .shape .binned127)
 
   -- the top is in no bin
   pub top-free : binned h (topOf h) ≡ 0

@@ -1,8 +1,10 @@
--- The heaps that a join goes through, as its parts require them. Definitions only.
+-- The heaps that a join goes through, as its parts require them, and its last parts as one. Definitions only.
 use mathlib.Core.Path.{_≡_}
 use mathlib.Core.List.{List, _∷_, _++_}
 use Prim.Native.Nat.{ℕ, _+_}
 use Rattle.machine.specs.Heap.{Tile, Heap, endFrom, binHas}
+use Rattle.machine.specs.Writes.{Ran, _>>=_}
+use Rattle.machine.specs.Release.{joinNext, putDown}
 use Rattle.sound.specs.Join.{Opened}
 use Rattle.prims.specs.Places.{Home}
 
@@ -23,3 +25,7 @@ pub record Open (h : Heap) (c : ℕ) : Type 0 where
   pub n : ℕ
   pub at : c ≡ endFrom 0 a
   pub now : Opened h a n
+
+-- a join from where c is open: with the chunk after, and put down
+abbrev pub joinRest : ℕ → Heap → Ran ℕ
+joinRest c h = joinNext c h >>= (λ h₂. putDown c h₂)

@@ -12,6 +12,7 @@ use Rattle.sizes.specs.Limits.{none32, cacheLists}
 use Rattle.sizes.specs.Layout.{lengthWord, topWord, remainderWord, cacheHead, cacheCount, fastHead, binFirst, binLast}
 use Rattle.machine.specs.Lists.{hd, lst}
 use Rattle.machine.specs.Heap.{Tile, Heap, cache, fast, fastAt, bin, withTiles, withStack, withBin, withRemainder, endFrom, topOf, ends, recordOf}
+use Rattle.sound.specs.Relation.{Shape}
 use Rattle.sound.specs.Tiles.{lt-or-le}
 
 -- ---- parts of a list
@@ -359,3 +360,7 @@ record-withRemainder h c = refl
 -- a word that has its value need not be written
 pub set-id : (r : List ℕ) (i v : ℕ) → getD r i 0 ≡ v → set r i v ≡ r
 set-id r i v e = ap (set r i) (sym e) ∙ set-getD r i 0
+
+-- other tiles that end where the heap's own do leave the record as it is
+pub record-tiles : (h : Heap) (ts : List Tile) → Shape h → endFrom 0 ts ≡ topOf h → recordOf (withTiles ts h) ≡ recordOf h
+record-tiles h ts s e = record-withTiles h ts ∙ set-id (recordOf h) topWord (endFrom 0 ts) (record-top h (s .stacked74) (s .binned127) ∙ sym e)

@@ -31,8 +31,8 @@ use Rattle.sound.specs.Moves.{answerOf}
 use Rattle.sound.specs.Small.{some-has}
 use Rattle.sound.specs.Sweep.{Turned, turn-leaves}
 use Rattle.fields.specs.Follow.{Ok, answer, Gave, Does}
-use Rattle.fields.specs.FollowLaws.{gave-by, gave-giving, gave-none, gave-ok}
-use Rattle.fields.specs.Reach.{more-more}
+use Rattle.fields.specs.FollowLaws.{gave-by, gave-more, gave-giving, gave-none, gave-ok}
+use Rattle.fields.specs.Reach.{more-nil, more-more}
 use Rattle.prims.specs.Stacks.{ok-head}
 use Rattle.sweep.specs.Newcomer.{ahead, ahead-first}
 use Rattle.sweep.specs.Turns.{turn-empty}
@@ -166,12 +166,6 @@ sweepOn left b got h = sweep (length (bin h unsorted)) left b got h
 abbrev pub Sweeping : ℕ → ℕ → Bool → List ℕ → List ℕ → List ℕ → List ℕ → Type 0
 Sweeping b left got w₀ r₀ w r = (h₀ : Heap) → Ok h₀ w₀ r₀ → Good h₀ → Reach b got (sweepOn left b got) h₀ w₀ w r
 
-more-none : (s : Ran Got) → s ≡ more [] s
-more-none (ran h ws a) = refl
-
-gave-more : (ws : List Write) (s : Ran Got) (g : Got) {w₀ w v q : List ℕ} → w ≡ apply ws w₀ → Gave Got s g w v q → Gave Got (more ws s) g w₀ v q
-gave-more ws (ran h vs a) g {w₀} e m = record { says = m .says; bytes = m .bytes ∙ ap (apply vs) e ∙ sym (apply-append ws vs w₀); rec = m .rec }
-
 pub reach-start : (b : ℕ) (h : Heap) (w r : List ℕ) → Ok h w r → Good h → Reach b false (sweepOn 10000 b false) h w w r
 unfolding step5
 reach-start b h w r o g = record {
@@ -181,7 +175,7 @@ reach-start b h w r o g = record {
   good = g;
   full = λ e. absurd (let z : _≡_ {A = ℕ} 0 1 = cc in omega arith);
   bytes = refl;
-  same = more-none (sweepOn 10000 b false h);
+  same = more-nil (sweepOn 10000 b false h);
 }
 
 -- a step that ends it

@@ -7,13 +7,13 @@ use Prim.Native.Nat.{ℕ, _≤_, _<_}
 use native.Mathlib.Omega.{arith}
 use lib.ListN.{getD}
 use Rattle.sizes.specs.Limits.{none64, none32}
-use Rattle.sizes.specs.Layout.{lengthWord, topWord, cacheHead, fastHead, binLast}
+use Rattle.sizes.specs.Layout.{cacheHead, fastHead, binLast}
 use Rattle.machine.specs.Lists.{hd, lst, some?, cnt}
 use Rattle.machine.specs.Count.{cnt-here}
-use Rattle.machine.specs.Heap.{Heap, stack, fastAt, bin, topOf}
+use Rattle.machine.specs.Heap.{Heap, stack, fastAt, bin}
 use Rattle.machine.specs.declared.{Got.Got, Got.the-variants.At}
 use Rattle.sound.specs.Lists.{lst-in}
-use Rattle.sound.specs.RecordOf.{record-len, record-top, record-binLast}
+use Rattle.sound.specs.RecordOf.{record-binLast}
 use Rattle.fields.specs.Follow.{Ok}
 use Rattle.prims.specs.Chunks.{Chunks, bin-chunk}
 use Rattle.prims.specs.Stacks.{ok-stack, ok-cacheHead, ok-fastHead}
@@ -62,9 +62,3 @@ module _ (h : Heap) (w r : List ℕ) (o : Ok h w r) where
 
   pub bin-empty : (j : ℕ) → 1 ≤ j → j ≤ 126 → getD r (binLast j) 0 ≡ none32 → bin h j ≡ []
   bin-empty j l m e = lst-empty w (bin h j) (λ x i. bin-chunk h w (o .shape) (o .mem) j x i) (sym (ok-binLast j l m) ∙ e)
-
-  pub ok-len : getD r lengthWord 0 ≡ h .len
-  ok-len = ap (λ (r : List ℕ). getD r lengthWord 0) (o .rec) ∙ record-len h (o .shape .stacked74) (o .shape .binned127)
-
-  pub ok-top : getD r topWord 0 ≡ topOf h
-  ok-top = ap (λ (r : List ℕ). getD r topWord 0) (o .rec) ∙ record-top h (o .shape .stacked74) (o .shape .binned127)

@@ -20,8 +20,7 @@ use Rattle.sound.specs.Tiles.{fits-split, end-even}
 use Rattle.sound.specs.Edits.{snoc-end, fits-tiles}
 use Rattle.sound.specs.RecordOf.{record-withTiles}
 use Rattle.fields.specs.Follow.{Ok, Has, Gave, Does}
-use Rattle.fields.specs.FollowLaws.{gave-by, gave-none}
-use Rattle.takes.specs.Tests.{ok-len, ok-top}
+use Rattle.fields.specs.FollowLaws.{gave-by, gave-none, ok-len, ok-top}
 
 -- the top t in an arena of n bytes, of which the heap has l
 pub record TopAt (n t l : ℕ) : Type 0 where

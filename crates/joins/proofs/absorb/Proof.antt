@@ -1,8 +1,9 @@
--- `joins::absorb` meets its contract: c lies in the arena, and the two writes follow the machine's unlink and swallow. Assumes nothing.
+-- `joins::absorb` meets its contract: c lies in the arena, and the two writes follow the machine's unlink and swallow. The second leaves s
+-- as c's size. Assumes nothing.
 use native.Mathlib.Omega.{arith}
 use borrow.Author.Needs.{needs}
 use Rattle.joins.specs.Reads.{arena-fits}
-use Rattle.joins.specs.Parts.{taking-binned, taking-inside, taking-small, absorb-gave}
+use Rattle.joins.specs.Parts.{taking-binned, taking-inside, taking-small, absorb-gave, absorb-size}
 use Rattle.joins.proofs.absorb.Statement.{statement}
 use Rattle.joins.proofs.absorb.Tie as tie
 
@@ -24,10 +25,13 @@ same-length-2 : tie.Need-same-length-2
 same-length-2 c = search needs
 
 returns : tie.Need-returns
-returns c = record {
-  does = λ h o t. absorb-gave h _ _ _ _ _ _ o t (c .before .before .before .before .before .before .before .before .unlink .ensures)
-      (c .before .before .set-size .ensures);
-}
+returns c =
+    let u = c .before .before .before .before .before .before .before .before in
+    let s = u .before .before .before .before .before in
+    let e = c .before .before .set-size .ensures in (
+      record { does = λ h o t. absorb-gave h _ _ _ _ _ _ o t (u .unlink .ensures) e },
+      absorb-size _ _ _ _ _ _ _ (s .pre .ok) (s .pre .holds) (u .unlink .ensures) e,
+    )
 
 pub absorb-spec : {M : Type 1} → statement M
 absorb-spec =

@@ -1,63 +1,57 @@
--- `joins::join` meets its contract: by the two ways, with the chunk before taken in or not. Between the calls the heap is open. Assumes nothing.
+-- `joins::join` meets its contract: by the two ways, with the chunk before taken in or not. Either leaves the heap open. Assumes nothing.
 use native.Mathlib.Omega.{arith}
 use borrow.Author.Needs.{needs}
+use mathlib.Core.Path.{_≡_, sym, ap, _∙_}
 use Rattle.le.specs.Arena.{arenaWords}
 use lib.ListN.{length}
+use Rattle.sizes.specs.SizeWord.{sizeOfWord}
+use Rattle.machine.specs.View.{sizeAt}
 use Rattle.prims.specs.Chunks.{Inside}
 use Rattle.prims.specs.Stacks.{loose-inside}
 use Rattle.joins.specs.Reads.{size-inside}
-use Rattle.joins.specs.Join.{Behind, behind, absorbed-has, join-prev-gave, join-open, next-has, join-here-gave}
+use Rattle.joins.specs.Join.{Behind, behind, absorbed-has, join-prev-gave, join-open, join-here-gave}
 use Rattle.joins.proofs.join.Statement.{statement}
 use Rattle.joins.proofs.join.Tie as tie
 
 at : (s : tie.Start) → Inside (length (s .args .a .now)) (s .args .c)
 at s = loose-inside _ _ _ (s .pre .ok) _ (s .pre .holds .1)
 
+-- c's size, out of the word as it was read
+size-read : (z : tie.After-size) → z .size .result ≡ sizeAt (arenaWords (z .before .before .before .before .before .args .a .now)) (z .before .before .before .before .before .args .c)
+size-read z = z .size .ensures ∙ ap sizeOfWord (z .before .size-word-at .ensures)
+
 -- the chunk before c, as it was read
-back : (z : tie.After-size-at)
-    → Behind (z .before .before .before .before .before .before .before .before .before .pre .heap)
-    (arenaWords (z .before .before .before .before .before .before .before .before .before .args .a .now))
-    (z .before .before .before .before .before .before .before .before .before .args .c) (z .before .before .note-at .result) (z .size-at .result)
-back z =
-    let n = z .before .before in
+back : (n : tie.After-note-at)
+    → Behind (n .before .before .before .before .before .before .before .before .before .pre .heap) (arenaWords (n .before .before .before .before .before .before .before .before .before .args .a .now)) (n .before .before .before .before .before .before .before .before .before .args .c) (n .note-at .result) (n .before .before .before .before .size .result)
+back n =
     let p = n .before .before .before in
-    let s = p .before .before .before .before in
-    behind _ _ _ _ _ (s .pre .ok) (s .pre .holds .0) (s .pre .holds .1) (p .p-at .ensures) _ _ (n .before .before .if1 .taken) (n .note-at .ensures)
-    (z .size-at .ensures)
+    let z = p .before in
+    let s = z .before .before .before .before .before in
+    behind _ _ _ _ _ (s .pre .ok) (s .pre .holds .0) (s .pre .holds .1) (z .before .size-word-at .ensures) _ _ (sym (p .has-p .ensures) ∙ n .before .before .if1 .left)
+    (n .note-at .ensures) (size-read z)
 
-p-at-requires : tie.Need-p-at-requires
-p-at-requires c κs = size-inside (at (c .before .before .before))
+size-word-at-requires : tie.Need-size-word-at-requires
+size-word-at-requires c κs = size-inside (at (c .before .before .before))
 
-note-at-requires : tie.Need-note-at-requires
-note-at-requires c κs = let k = at (c .before .before .before .before .before .before) in omega arith
+size-requires : tie.Need-size-requires
+size-requires c κs = search needs
 
-size-at-requires : tie.Need-size-at-requires
-size-at-requires c κs = size-inside (at (c .before .before .before .before .before .before .before .before))
+has-p-requires : tie.Need-has-p-requires
+has-p-requires c κs = search needs
 
-sub-q : tie.Need-sub-q
-sub-q c = omega (arith, back c .low)
-
-add-absorb : tie.Need-add-absorb
-add-absorb c = omega (arith, back (c .before .before) .small)
-
-absorb-requires : tie.Need-absorb-requires
-absorb-requires c κs =
-    let z = c .before .before in
-    let s = z .before .before .before .before .before .before .before .before .before in
-    record { heap = s .pre .heap; ok = s .pre .ok; holds = back z .taking }
-
-join-next-requires : tie.Need-join-next-requires
-join-next-requires c κs =
-    let z = c .before .before .before .before .before .before .before .before .before in
-    absorbed-has _ _ _ _ _ _ (z .before .before .before .before .before .before .before .before .before .pre .ok) (back z)
-    (c .before .before .before .before .before .before .absorb .ensures)
-
-put-down-requires : tie.Need-put-down-requires
-put-down-requires c κs =
-    let b = c .before .before .before .before .before .before .before .before .before .before .before .before .before in
-    let z = b .before .before .before in
-    let k = absorbed-has _ _ _ _ _ _ (z .before .before .before .before .before .before .before .before .before .pre .ok) (back z) (b .absorb .ensures) in
-    next-has _ _ _ _ (k .ok) (k .holds) (c .before .before .before .before .before .before .join-next .ensures)
+join-rest-requires : tie.Need-join-rest-requires
+join-rest-requires c κs =
+    let p = c .before .before .before in
+    let z = p .before in
+    let s = z .before .before .before .before .before in (
+      record {
+        heap = s .pre .heap;
+        ok = s .pre .ok;
+        holds = join-open _ _ _ _ _ (s .pre .ok) (s .pre .holds .0) (s .pre .holds .1) (z .before .size-word-at .ensures)
+            (sym (p .has-p .ensures) ∙ c .before .before .if1 .taken);
+      },
+      size-read z,
+    )
 
 same-length : tie.Need-same-length
 same-length c = search needs
@@ -67,36 +61,28 @@ same-length-2 c = search needs
 
 returns : tie.Need-returns
 returns c =
-    let b = c .before .before .before .before .before .before .before .before .before .before .before .before .before .before .before .before .before .before in
-    let z = b .before .before .before in
-    let n = z .before .before in
-    let p = n .before .before .before in
+    let p = c .before .before .before .before .before .before .before .before in
     record {
-      does = λ h o g.
-          join-prev-gave h _ _ _ _ _ o (behind h _ _ _ _ o (g .0) (g .1) (p .p-at .ensures) _ _ (n .before .before .if1 .taken) (n .note-at .ensures)
-          (z .size-at .ensures))
-          (b .absorb .ensures) (c .before .before .before .before .before .before .before .before .before .before .before .join-next .ensures)
-          (c .before .before .before .before .put-down .ensures);
+      does = λ h o g. join-here-gave h _ _ _ _ o (g .0) (g .1) (p .before .before .size-word-at .ensures)
+          (sym (p .has-p .ensures) ∙ c .before .before .before .before .before .before .before .if1 .taken) (c .before .before .before .before .join-rest .ensures);
     }
 
-join-next-requires-2 : tie.Need-join-next-requires-2
-join-next-requires-2 c κs =
-    let p = c .before .before .before in
-    let s = p .before .before .before .before in
-    record {
-      heap = s .pre .heap;
-      ok = s .pre .ok;
-      holds = join-open _ _ _ _ _ (s .pre .ok) (s .pre .holds .0) (s .pre .holds .1) (p .p-at .ensures)
-          (c .before .before .if1 .left);
-    }
+note-at-requires : tie.Need-note-at-requires
+note-at-requires c κs = let k = at (c .before .before .before .before .before .before .before .before) in omega arith
 
-put-down-requires-2 : tie.Need-put-down-requires-2
-put-down-requires-2 c κs =
-    let i = c .before .before .before .before .before .before .before .before .before in
-    let p = i .before in
-    let s = p .before .before .before .before in
-    next-has _ _ _ _ (s .pre .ok) (join-open _ _ _ _ _ (s .pre .ok) (s .pre .holds .0) (s .pre .holds .1) (p .p-at .ensures) (i .if1 .left))
-    (c .before .before .before .before .before .before .join-next2 .ensures)
+sub-q : tie.Need-sub-q
+sub-q c = omega (arith, back c .low)
+
+add-s : tie.Need-add-s
+add-s c = omega (arith, back c .small)
+
+absorb-requires : tie.Need-absorb-requires
+absorb-requires c κs = let s = c .before .before .before .before .before .before .before .before .before .before .before in record { heap = s .pre .heap; ok = s .pre .ok; holds = back (c .before .before) .taking }
+
+join-rest-requires-2 : tie.Need-join-rest-requires-2
+join-rest-requires-2 c κs =
+    let b = c .before .before .before .before .before .before in
+    (absorbed-has _ _ _ _ _ _ (b .before .before .before .before .before .before .before .before .before .before .before .before .pre .ok) (back (b .before .before .before)) (b .absorb .ensures .0), sym (b .absorb .ensures .1))
 
 same-length-3 : tie.Need-same-length-3
 same-length-3 c = search needs
@@ -106,30 +92,33 @@ same-length-4 c = search needs
 
 returns-2 : tie.Need-returns-2
 returns-2 c =
-    let i = c .before .before .before .before .before .before .before .before .before .before .before .before .before .before in
+    let b = c .before .before .before .before .before .before .before .before .before .before .before in
+    let n = b .before .before .before in
+    let p = n .before .before .before in
     record {
-      does = λ h o g. join-here-gave h _ _ _ _ o (g .0) (g .1) (i .before .p-at .ensures) (i .if1 .left)
-          (c .before .before .before .before .before .before .before .before .before .before .before .join-next2 .ensures)
-          (c .before .before .before .before .put-down2 .ensures);
+      does = λ h o g.
+          join-prev-gave h _ _ _ _ _ o
+          (behind h _ _ _ _ o (g .0) (g .1) (p .before .before .size-word-at .ensures) _ _ (sym (p .has-p .ensures) ∙ n .before .before .if1 .left) (n .note-at .ensures)
+          (size-read (n .before .before .before .before)))
+          (b .absorb .ensures .0) (c .before .before .before .before .join-rest2 .ensures);
     }
 
 pub join-spec : {M : Type 1} → statement M
 join-spec =
     tie.close
     (tie.spec
-    p-at-requires
-    note-at-requires
-    size-at-requires
-    sub-q
-    add-absorb
-    absorb-requires
-    join-next-requires
-    put-down-requires
+    size-word-at-requires
+    size-requires
+    has-p-requires
+    join-rest-requires
     same-length
     same-length-2
     returns
-    join-next-requires-2
-    put-down-requires-2
+    note-at-requires
+    sub-q
+    add-s
+    absorb-requires
+    join-rest-requires-2
     same-length-3
     same-length-4
     returns-2)
