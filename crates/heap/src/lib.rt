@@ -1,48 +1,13 @@
 // The calls as C sees them: arena bytes, control record bytes and a number, answered by three numbers. Each is the machine's call on the same bytes, with
 // document 01's numbers for its answer; include/heap.h says the same in C's words.
 ghost use mathlib.Core.Path.{_≡_};
-ghost use Rattle.machine.specs.Calls.{answerNumbers, faultNumbers, listNumbers, refusalNo, openCall, grantCall, releaseCall, settleCall, auditCall};
+ghost use Rattle.machine.specs.Calls.{faultNumbers, listNumbers, openCall, grantCall, releaseCall, settleCall, auditCall};
 ghost use Rattle.heap.specs.Exported.{back, numbered};
-use machine::Answer;
 use machine::Audited;
 use machine::HeapAnswer;
 use machine::HeapFault;
 use machine::ListKind;
-use machine::Refusal;
-
-fn refusal_no(x: Refusal) -> u32
-    ensures { λ n. ⌜ n ≡ refusalNo x ⌝ }
-{
-    match x {
-        Refusal::Shape => 1,
-        Refusal::Request => 2,
-        Refusal::Unsound => 3,
-        Refusal::NotLive => 4,
-        Refusal::NoRoom => 5,
-    }
-}
-
-fn answer_numbers(x: Answer) -> HeapAnswer
-    ensures { λ n. ⌜ n ≡ answerNumbers x ⌝ }
-{
-    match x {
-        Answer::Done => HeapAnswer {
-            no: 0,
-            mem: 0,
-            usable: 0,
-        },
-        Answer::Granted { mem, usable } => HeapAnswer {
-            no: 0,
-            mem: mem,
-            usable: usable,
-        },
-        Answer::Refused(y) => HeapAnswer {
-            no: refusal_no(y),
-            mem: 0,
-            usable: 0,
-        },
-    }
-}
+use machine::answer_numbers;
 
 fn list_numbers(k: ListKind) -> HeapFault
     ensures { λ n. ⌜ n ≡ listNumbers k ⌝ }

@@ -5,9 +5,8 @@ use mathlib.Core.List.{List, [], _∷_, _++_}
 use Prim.Native.Nat.{ℕ}
 use lib.ListN.{length}
 use Rattle.machine.specs.Calls.{After, after, grantCall, releaseCall, settleCall}
-use Rattle.machine.specs.declared.Answer.{Answer}
 use Rattle.calls.specs.Results.{Lent}
-use Rattle.history.specs.Histories.{Event, Grant, Release, Settle, Store, Block, State, state, blocksIn, granted, released, settled, next, run, answerTo, answers, answerOf, begin}
+use Rattle.history.specs.Histories.{Event, Grant, Release, Settle, Store, Block, State, state, blocksIn, granted, released, settled, next, run, answerTo, answerOf, begin}
 use Rattle.history.specs.Demand3.{MendedAt, New}
 use Rattle.history.specs.Theorem.{demand3}
 use Rattle.history.specs.declared.Call.{Call}

@@ -1,6 +1,6 @@
 -- The audit computes: a sound heap of 256 bytes, and the answer to each of a list of single flaws, kind and number as document 01 orders them. Assumes nothing.
 use mathlib.Core.Path.{_≡_, refl}
-use mathlib.Core.Bool.{Bool, true, false}
+use mathlib.Core.Bool.{true}
 use mathlib.Core.List.{List, [], _∷_, _++_}
 use Prim.Native.Nat.{ℕ}
 use lib.ListN.{length, set, replicate}

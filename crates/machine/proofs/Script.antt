@@ -3,7 +3,7 @@ use mathlib.Core.List.{List, [], _∷_, _++_}
 use mathlib.Core.Bool.{Bool, true, false}
 use Prim.Native.Nat.{ℕ, _+_, _-_}
 use lib.Dec.{eqb, leb}
-use lib.ListN.{length, getD, replicate}
+use lib.ListN.{replicate}
 use Rattle.le.specs.Number.{number, numberFrom, words, digits, bytes}
 use Rattle.le.specs.Arena.{arenaWords}
 use Rattle.sizes.specs.Sizes.{need, usable, cacheOf, fastOf, binOf, largeBin}

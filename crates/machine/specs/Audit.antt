@@ -1,7 +1,7 @@
 -- The audit: the first fault of the heap that words and record spell, in the order record, tiles, lists, flags. Definitions only.
 use mathlib.Core.List.{List, [], _∷_, _++_}
 use mathlib.Core.Bool.{Bool, true, false}
-use Prim.Native.Nat.{ℕ, zero, suc, _+_, _*_}
+use Prim.Native.Nat.{ℕ, suc, _+_, _*_}
 use lib.Dec.{eqb, ltb, leb}
 use lib.ListN.{length, getD, drop}
 use Rattle.sizes.specs.Limits.{none64, cacheRoom, mostFast, unsorted, leastChunk}

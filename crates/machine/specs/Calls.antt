@@ -106,10 +106,7 @@ granted a (ran h ws Nothing) = left a h ws (Refused R.NoRoom)
 
 -- of good shape, number 2 comes before number 3
 unfoldable pub grantCall : List ℕ → List ℕ → ℕ → After
-grantCall a r n = elim (both (shape? a r) (ltb mostRequest n)) [
-  | true ↦ refused a r R.Request
-  | false ↦ onSound a r (λ h. granted a (grant (need n) h))
-]
+grantCall a r n = elim (both (shape? a r) (ltb mostRequest n)) [ true ↦ refused a r R.Request | false ↦ onSound a r (λ h. granted a (grant (need n) h)) ]
 
 -- ---- release: numbers 1, 3, 4; null does nothing and succeeds
 abbrev pub done : {A : Type 0} → List ℕ → Ran A → After

@@ -1,5 +1,5 @@
 -- Grant: document 01's steps 1 to 9, in its words and order, for a chunk size b. Definitions only.
-use mathlib.Core.List.{List, [], _∷_, _++_}
+use mathlib.Core.List.{List, [], _∷_}
 use mathlib.Core.Bool.{Bool, true, false}
 use Prim.Native.Nat.{ℕ, zero, suc, _+_, _-_, min}
 use lib.Dec.{eqb, ltb, leb}
@@ -109,10 +109,7 @@ splitLone b c h = giving (T.Granted c) do
 
 -- Size equal to b: set the next P; if b is at most 1,040 and its cache list has fewer than 7, put it there and go on, else grant it.
 unfoldable pub keep : ℕ → ℕ → Heap → Ran Turn
-keep b c h = elim (both (leb b mostCached) (roomFor? b h)) [
-  | true ↦ giving T.Cached (pushCache (cacheOf b) c h)
-  | false ↦ ran h [] (T.Granted c)
-]
+keep b c h = elim (both (leb b mostCached) (roomFor? b h)) [ true ↦ giving T.Cached (pushCache (cacheOf b) c h) | false ↦ ran h [] (T.Granted c) ]
 
 -- Otherwise take it out. Any other size: put it in its bin.
 unfoldable pub turnAt : ℕ → ℕ → Heap → Ran Turn
@@ -158,18 +155,11 @@ step5 b h = sweep (length (bin h unsorted)) mostBinned b false h
 unfoldable pub carve : ℕ → ℕ → Bool → Heap → Ran (Unit {0})
 carve c b new? h = elim (ltb (sizeOf h c - b) leastChunk) [
   | true ↦ setP (next h c) h
-  | false ↦ elim new? [
-    | true ↦ do
-      h ← split c b h
-      setRemainder (c + b) h
-    | false ↦ split c b h
-  ]
+  | false ↦ elim new? [ true ↦ split c b h >>= setRemainder (c + b) | false ↦ split c b h ]
 ]
 
 unfoldable pub step8 : ℕ → ℕ → ℕ → Bool → Heap → Ran Got
-step8 j c b new? h = giving (At c) do
-  h ← unlink j c h
-  carve c b new? h
+step8 j c b new? h = giving (At c) (unlink j c h >>= carve c b new?)
 
 -- 6. b ≥ 1,024: in its own bin take the smallest that is at least b, the second of its equals if there are several.
 -- the smallest size that is at least b, 0 where there is none; the chunks of size z
@@ -201,10 +191,7 @@ firstBin zero j h = Nothing
 firstBin (suc n) j h = elim (some? (bin h j)) [ true ↦ At j | false ↦ firstBin n (suc j) h ]
 
 unfoldable pub step7 : ℕ → Heap → Ran Got
-step7 b h = elim (firstBin (lastBin - binOf b) (suc (binOf b)) h) [
-  | At j ↦ step8 j (lst none64 (bin h j)) b (ltb b large) h
-  | Nothing ↦ nothing h
-]
+step7 b h = elim (firstBin (lastBin - binOf b) (suc (binOf b)) h) [ At j ↦ step8 j (lst none64 (bin h j)) b (ltb b large) h | Nothing ↦ nothing h ]
 
 -- 9. Top of at least b+32: cut b off its front.
 unfoldable pub step9 : ℕ → Heap → Ran Got
@@ -216,12 +203,7 @@ pass b h = step5 b h orElse step6 b orElse step7 b orElse step9 b
 
 -- Else, if a fast list is non-empty, consolidate and go to 5; else refuse. (No fast list holds a chunk then, so this happens once)
 unfoldable pub again : ℕ → Heap → Ran Got
-again b h = elim (anyFast? h) [
-  | true ↦ do
-    h ← consolidate h
-    pass b h
-  | false ↦ nothing h
-]
+again b h = elim (anyFast? h) [ true ↦ consolidate h >>= pass b | false ↦ nothing h ]
 
 -- steps 4 to 9, steps 2 to 9, and all of grant
 unfoldable pub from4 : ℕ → Heap → Ran Got

@@ -1,10 +1,9 @@
 -- The primitives: one push and one take for stacks, one unlink and one insert for bins, the edits of tiles. Each names every field it writes. Definitions only.
 use mathlib.Core.List.{List, [], _∷_, _++_}
-use mathlib.Core.Bool.{Bool, true, false}
 use Prim.Native.Nat.{ℕ, _+_, _-_}
 use Rattle.sizes.specs.Limits.{none64}
 use Rattle.machine.specs.Lists.{hd, lst, tl, pre, post}
-use Rattle.machine.specs.Heap.{Tile, tile, Heap, stack, bin, withTiles, withStack, withBin, withRemainder, upTo, edit, topOf, topSize, sizeOf, next}
+use Rattle.machine.specs.Heap.{Tile, tile, Heap, stack, bin, withTiles, withStack, withBin, withRemainder, upTo, edit, topOf, sizeOf, next}
 use Rattle.machine.specs.Writes.{Write, size, note, link, fwd, back, Ran, ran, does}
 use Rattle.machine.specs.declared.{Got.Got, Got.the-variants.At}
 

@@ -1,21 +1,19 @@
 -- Release, join, consolidate and settle, in document 01's words and order. Definitions only.
-use mathlib.Core.List.{List, [], _∷_, _++_}
-use mathlib.Core.Bool.{Bool, true, false}
-use Prim.Native.Nat.{ℕ, zero, suc, _+_, _-_}
+use mathlib.Core.List.{List, [], _∷_}
+use mathlib.Core.Bool.{true, false}
+use Prim.Native.Nat.{ℕ, zero, suc, _-_}
 use lib.Dec.{eqb, ltb, leb}
 use lib.ListN.{length}
 use Rattle.sizes.specs.Limits.{none32, mostCached, cacheRoom, cacheLists, mostFast, fastLists, unsorted}
 use Rattle.sizes.specs.Sizes.{cacheOf, fastOf}
 use Rattle.machine.specs.Lists.{both}
 use Rattle.machine.specs.Heap.{Heap, stack, cache, fastAt, binned, binHas, topOf, sizeOf, pOf, next, before}
-use Rattle.machine.specs.Writes.{Ran, ran, does, giving, more, _>>=_}
+use Rattle.machine.specs.Writes.{Ran, does, giving, _>>=_}
 use Rattle.machine.specs.Primitives.{push, pop, pushCache, putFirst, unlink, swallow, clearP, toTop, setRemainder}
 
 -- x leaves its bin, and c takes in the chunk after it
 unfoldable pub absorb : ℕ → ℕ → Heap → Ran (Unit {0})
-absorb x c h = do
-  h ← unlink (binHas h x) x h
-  swallow c h
+absorb x c h = unlink (binHas h x) x h >>= swallow c
 
 -- with the chunk after if it is binned
 unfoldable pub joinNext : ℕ → Heap → Ran (Unit {0})
@@ -45,10 +43,7 @@ join c h = elim (eqb (pOf h c) 0) [
 
 -- past the cache: up to 128 on the fast list, else join. Answers the size that the joining yields, 0 where none is joined
 unfoldable pub releasePast : ℕ → Heap → Ran ℕ
-releasePast c h = elim (leb (sizeOf h c) mostFast) [
-  | true ↦ giving 0 (push (fastAt (fastOf (sizeOf h c))) c h)
-  | false ↦ join c h
-]
+releasePast c h = elim (leb (sizeOf h c) mostFast) [ true ↦ giving 0 (push (fastAt (fastOf (sizeOf h c))) c h) | false ↦ join c h ]
 
 -- size up to 1,040 and its cache list under 7: push; else past the cache
 unfoldable pub release : ℕ → Heap → Ran ℕ
@@ -82,11 +77,7 @@ emptying h = drains releasePast cacheLists 0 h
 
 -- settle's second part: consolidate, then clear the last remainder
 unfoldable pub joining : Heap → Ran (Unit {0})
-joining h = do
-  h ← consolidate h
-  setRemainder none32 h
+joining h = consolidate h >>= setRemainder none32
 
 unfoldable pub settle : Heap → Ran (Unit {0})
-settle h = do
-  h ← emptying h
-  joining h
+settle h = emptying h >>= joining

@@ -1,6 +1,7 @@
 // The answers of the heap's calls and steps. What they mean, and the numbers that document 01 gives them, stands in specs/.
 ghost use mathlib.Core.Path.{_≡_};
 ghost use Rattle.machine.specs.Audit.{sound?};
+ghost use Rattle.machine.specs.Calls.{refusalNo, answerNumbers};
 
 // A list of the heap: cache, fast or bin, and its number.
 pub enum ListKind {
@@ -74,5 +75,40 @@ pub fn is_sound(x: Audited) -> bool
         Audited::List(_) => false,
         Audited::Flag(_) => false,
         Audited::Shape => false,
+    }
+}
+
+fn refusal_no(x: Refusal) -> u32
+    ensures { λ n. ⌜ n ≡ refusalNo x ⌝ }
+{
+    match x {
+        Refusal::Shape => 1,
+        Refusal::Request => 2,
+        Refusal::Unsound => 3,
+        Refusal::NotLive => 4,
+        Refusal::NoRoom => 5,
+    }
+}
+
+// The numbers of an answer, as document 01 gives them.
+pub fn answer_numbers(x: Answer) -> HeapAnswer
+    ensures { λ n. ⌜ n ≡ answerNumbers x ⌝ }
+{
+    match x {
+        Answer::Done => HeapAnswer {
+            no: 0,
+            mem: 0,
+            usable: 0,
+        },
+        Answer::Granted { mem, usable } => HeapAnswer {
+            no: 0,
+            mem: mem,
+            usable: usable,
+        },
+        Answer::Refused(y) => HeapAnswer {
+            no: refusal_no(y),
+            mem: 0,
+            usable: 0,
+        },
     }
 }

@@ -1,14 +1,12 @@
 // The text that heaplog prints: a line for each call, and `? k`. Each function writes at a place of a lent buffer and answers the place after it.
 // Assumes nothing.
 ghost use mathlib.Core.Path.{_≡_};
-ghost use mathlib.Core.List.{List, [], _∷_, _++_};
+ghost use mathlib.Core.List.{[], _∷_, _++_};
 ghost use Prim.Native.Nat.{_+_, _≤_, _<_};
 ghost use lib.ListN.{length, take};
-ghost use Rattle.machine.specs.Calls.{answerNumbers, refusalNo};
 ghost use Rattle.script.specs.Format.{decimal, field, answerText, questionText};
 use machine::Answer;
-use machine::HeapAnswer;
-use machine::Refusal;
+use machine::answer_numbers;
 
 fn put_byte(out: &mut [u8], at: usize, b: u8) -> usize
     requires { ⌜ at < length (now out) ⌝ }
@@ -52,44 +50,13 @@ fn put_field(out: &mut [u8], at: usize, n: u64) -> usize
     put_decimal(out, m, n, 20)
 }
 
-// The numbers of an answer, as document 01 gives them.
-fn numbers_of(x: Answer) -> HeapAnswer
-    ensures { λ r. ⌜ r ≡ answerNumbers x ⌝ }
-{
-    match x {
-        Answer::Done => HeapAnswer {
-            no: 0,
-            mem: 0,
-            usable: 0,
-        },
-        Answer::Granted { mem, usable } => HeapAnswer { no: 0, mem, usable },
-        Answer::Refused(why) => HeapAnswer {
-            no: refusal_no(why),
-            mem: 0,
-            usable: 0,
-        },
-    }
-}
-
-fn refusal_no(x: Refusal) -> u32
-    ensures { λ r. ⌜ r ≡ refusalNo x ⌝ }
-{
-    match x {
-        Refusal::Shape => 1,
-        Refusal::Request => 2,
-        Refusal::Unsound => 3,
-        Refusal::NotLive => 4,
-        Refusal::NoRoom => 5,
-    }
-}
-
 // A call's line: its letter, the answer's numbers, and the top after it. Answers how many bytes it has.
 pub fn put_answer(out: &mut [u8], letter: u8, x: Answer, top: u32) -> usize
     requires { ⌜ 86 ≤ length (now out) ⌝ }
     ensures { λ r. ⌜ r ≤ length (now (out .exit)) ⌝ }
     ensures { λ r. ⌜ take r (now (out .exit)) ≡ answerText letter x top ⌝ }
 {
-    let n = numbers_of(x);
+    let n = answer_numbers(x);
     let no = n.no as u64;
     let mem = n.mem as u64;
     let usable = n.usable as u64;

@@ -1,8 +1,8 @@
 // A line of a script from its bytes: fed one by one to a text of fixed size, and read as the grammar says. Assumes nothing.
 ghost use mathlib.Core.Path.{_≡_};
-ghost use mathlib.Core.List.{List, [], _∷_, _++_};
+ghost use mathlib.Core.List.{[], _∷_, _++_};
 ghost use Prim.Native.Nat.{_+_, _*_, _-_, _≤_, _<_};
-ghost use lib.ListN.{length, take};
+ghost use lib.ListN.{take};
 ghost use Rattle.script.specs.Grammar.{digit?, numberOf, alone, numbered, lineOf, kept, keptBytes};
 use crate::Line;
 use crate::LineText;

@@ -5,8 +5,8 @@ use Rattle.script.proofs.Writing.{call-written}
 use Rattle.script.proofs.format.put_answer.Statement.{statement}
 use Rattle.script.proofs.format.put_answer.Tie as tie
 
-numbers-of-requires : tie.Need-numbers-of-requires
-numbers-of-requires c κs = search needs
+answer-numbers-requires : tie.Need-answer-numbers-requires
+answer-numbers-requires c κs = search needs
 
 cast-no : tie.Need-cast-no
 cast-no c = search needs
@@ -55,14 +55,14 @@ returns c = (
     c .before .before .before .before .before .before .before .before .before .before .before .before .before .before .before .before .before .before .put-field .kept .0,
     c .before .before .before .before .before .before .before .before .before .before .before .before .before .before .before .before .before .before .before .before .before .before .put-byte .kept .0,
   ),
-  call-written _ _ _ (c .before .before .before .before .before .before .before .before .before .before .before .before .before .before .before .before .before .before .before .before .before .before .before .before .before .before .before .numbers-of .ensures) (c .before .before .before .before .before .before .before .before .before .before .before .before .before .before .before .before .before .before .before .before .before .before .put-byte .ensures .1) (c .before .before .before .before .before .before .before .before .before .before .before .before .before .before .before .before .before .before .put-field .ensures .1) (c .before .before .before .before .before .before .before .before .before .before .before .before .before .before .put-field2 .ensures .1) (c .before .before .before .before .before .before .before .before .before .before .put-field3 .ensures .1) (c .before .before .before .before .before .before .put-field4 .ensures .1) (c .before .before .put-byte2 .ensures .1),
+  call-written _ _ _ (c .before .before .before .before .before .before .before .before .before .before .before .before .before .before .before .before .before .before .before .before .before .before .before .before .before .before .before .answer-numbers .ensures) (c .before .before .before .before .before .before .before .before .before .before .before .before .before .before .before .before .before .before .before .before .before .before .put-byte .ensures .1) (c .before .before .before .before .before .before .before .before .before .before .before .before .before .before .before .before .before .before .put-field .ensures .1) (c .before .before .before .before .before .before .before .before .before .before .before .before .before .before .put-field2 .ensures .1) (c .before .before .before .before .before .before .before .before .before .before .put-field3 .ensures .1) (c .before .before .before .before .before .before .put-field4 .ensures .1) (c .before .before .put-byte2 .ensures .1),
 )
 
 pub put-answer-spec : {M : Type 1} → statement M
 put-answer-spec =
     tie.close
     (tie.spec
-    numbers-of-requires
+    answer-numbers-requires
     cast-no
     cast-mem
     cast-usable

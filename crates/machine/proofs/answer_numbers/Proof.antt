@@ -1,10 +1,7 @@
--- `answer_numbers` is `answerNumbers`, answer by answer. Assumes nothing.
-use mathlib.Core.Path.{sym, ap, _∙_}
-use Rattle.machine.specs.Calls.{answerNumbers}
-use Rattle.heap.specs.Exported.{refusal}
+-- `answer_numbers` meets its contract: each case of an answer is a line of the document's numbers. Assumes nothing.
 use borrow.Author.Needs.{needs}
-use Rattle.heap.proofs.answer_numbers.Statement.{statement}
-use Rattle.heap.proofs.answer_numbers.Tie as tie
+use Rattle.machine.proofs.answer_numbers.Statement.{statement}
+use Rattle.machine.proofs.answer_numbers.Tie as tie
 
 enum-told : tie.Need-enum-told
 enum-told c = search needs
@@ -19,13 +16,13 @@ refusal-no-requires : tie.Need-refusal-no-requires
 refusal-no-requires c κs = search needs
 
 returns : tie.Need-returns
-returns c = sym (ap answerNumbers (c .enum-told .given .1))
+returns c = rw (c .enum-told .given .1)
 
 returns-2 : tie.Need-returns-2
-returns-2 c = sym (ap answerNumbers (c .before .x .given .1))
+returns-2 c = rw (c .before .x .given .1)
 
 returns-3 : tie.Need-returns-3
-returns-3 c = ap refusal (c .refusal-no .ensures) ∙ sym (ap answerNumbers (c .before .before .x2 .given .1))
+returns-3 c = rw (c .before .before .x2 .given .1, c .refusal-no .ensures)
 
 pub answer-numbers-spec : {M : Type 1} → statement M
 answer-numbers-spec =
