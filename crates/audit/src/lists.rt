@@ -17,11 +17,10 @@ pub fn list_fault(a: &[u8], r: &[u32], m: &mut [u8]) -> Audited
     let mut i: u32 = 0;
     'lists: while i < 200 {
         let j = audit_leaves::skip(r, i);
-        if i < j {
-            i = j;
-            continue;
+        if j == 200 {
+            break;
         }
-        let k = audit_leaves::kind_at(i);
+        let k = audit_leaves::kind_at(j);
         let v = audit_leaves::mark(k);
         let mut c = audit_leaves::head(r, k);
         let mut p = NONE64;
@@ -48,7 +47,7 @@ pub fn list_fault(a: &[u8], r: &[u32], m: &mut [u8]) -> Audited
             fault = Audited::List(k);
             break 'lists;
         }
-        i += 1;
+        i = j + 1;
     }
     fault
 }

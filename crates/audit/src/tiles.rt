@@ -10,13 +10,13 @@ pub fn tile_fault(a: &[u8], top: u32, m: &mut [u8]) -> Audited
     ensures { λ f. ⌜ TilesDone (arenaWords (now (a .entry))) top f (now (m .exit)) ⌝ }
 {
     let mut o: usize = 0;
+    let mut room = a.len();
     loop {
         let x = audit_leaves::size_word(a, o);
         if !audit_leaves::tile_ok(x) {
             return Audited::Tile(o as u32);
         }
         let s = x.size() as usize;
-        let room = a.len() - o;
         if room <= s {
             if room < s {
                 return Audited::Tile(o as u32);
@@ -28,5 +28,6 @@ pub fn tile_fault(a: &[u8], top: u32, m: &mut [u8]) -> Audited
         }
         m[o / 16] = 1;
         o += s;
+        room -= s;
     }
 }

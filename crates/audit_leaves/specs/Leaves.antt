@@ -3,10 +3,11 @@ use mathlib.Core.Path.{_≡_}
 use mathlib.Core.List.{List}
 use mathlib.Core.Bool.{Bool, true}
 use Prim.Native.Nat.{ℕ, _+_, _/_, _%_, _≤_, _<_}
+use lib.Bits.{bitAnd, bitOr}
 use lib.Dec.{eqb, ltb, leb}
 use lib.ListN.{length, getD}
 use Rattle.le.specs.Arena.{arenaWords}
-use Rattle.sizes.specs.Limits.{none64, none32, leastChunk}
+use Rattle.sizes.specs.Limits.{none64, leastChunk}
 use Rattle.sizes.specs.Layout.{cacheCount, binLast}
 use Rattle.sizes.specs.SizeWord.{sizeOfWord, lowOfWord}
 use Rattle.machine.specs.Lists.{both, ind}
@@ -38,9 +39,16 @@ tailWord (Cache k) = cacheCount k
 tailWord (Fast k) = 0
 tailWord (Bin j) = binLast j
 
--- n words of the record from f on are none
-abbrev pub NoneFrom : List ℕ → ℕ → ℕ → Type 0
-NoneFrom r f n = (i : ℕ) → i < n → getD r (f + i) 0 ≡ none32
+-- the bits that are set in all of the four words from f on, and those that are set in any of them
+abbrev pub fourAnd : List ℕ → ℕ → ℕ
+fourAnd r f = bitAnd (bitAnd (bitAnd (getD r f 0) (getD r (f + 1) 0)) (getD r (f + 2) 0)) (getD r (f + 3) 0)
+
+abbrev pub fourOr : List ℕ → ℕ → ℕ
+fourOr r f = bitOr (bitOr (bitOr (getD r f 0) (getD r (f + 1) 0)) (getD r (f + 2) 0)) (getD r (f + 3) 0)
+
+-- n words of the record from f on are v
+abbrev pub AllFrom : List ℕ → ℕ → ℕ → ℕ → Type 0
+AllFrom r f n v = (i : ℕ) → i < n → getD r (f + i) 0 ≡ v
 
 -- a list that has no chunk and ends rightly
 abbrev pub Empty : List ℕ → ListKind → Type 0

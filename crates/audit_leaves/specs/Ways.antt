@@ -7,7 +7,7 @@ use Prim.Native.Nat.{ℕ, zero, suc, _+_, _-_, _*_, _≤_, _<_}
 use native.Mathlib.Nat.{add-assoc}
 use native.Mathlib.Omega.{arith}
 use lib.Dec.{eqb, ltb, leb}
-use lib.Bits.{bitAnd, and-le-l, and-le-r}
+use lib.Bits.{bitAnd, bitOr, and-le-l, and-le-r, or-add-and}
 use lib.ListN.{getD}
 use borrow.Author.Tests.{eq-eqb, ne-eqb, lt-ltb, le-ltb, ltb-true, ltb-false}
 use Rattle.sizes.specs.Limits.{none64, none32}
@@ -19,7 +19,7 @@ use Rattle.machine.specs.View.{sizeAt, up, kindAt, headWord}
 use Rattle.machine.specs.Audit.{fits, mayEnd}
 use Rattle.machine.specs.declared.ListKind.{ListKind}
 use Rattle.machine.specs.declared.ListKind.the-variants.{Cache, Fast, Bin}
-use Rattle.audit_leaves.specs.Leaves.{NoneFrom, Empty, Skipped}
+use Rattle.audit_leaves.specs.Leaves.{fourAnd, fourOr, AllFrom, Empty, Skipped}
 
 pub word-at : (w : List ℕ) (i j x : ℕ) → i ≡ j → x ≡ getD w i 0 → x ≡ getD w j 0
 word-at w i j x e g = g ∙ ap (λ (n : ℕ). getD w n 0) e
@@ -53,45 +53,55 @@ bin-empty r i g h e =
     let k : kindAt i ≡ Bin (i - 73) = rw (le-ltb i 64 (omega arith), kindAt) (rw (le-ltb i 74 g)) in
     subst (Empty r) (sym k) (up-none (getD r (binFirst (i - 73)) 0) h, eq-eqb (up (getD r (binLast (i - 73)) 0)) none64 (up-none (getD r (binLast (i - 73)) 0) e))
 
--- ---- words whose `&` is none are none, as it is at most each of them
-four-and : (a b c d : ℕ) → none32 ≤ bitAnd (bitAnd (bitAnd a b) c) d → (none32 ≤ a) × (none32 ≤ b) × (none32 ≤ c) × (none32 ≤ d)
-four-and a b c d h =
-    let abc : ℕ = bitAnd (bitAnd a b) c in
-    let ab : ℕ = bitAnd a b in
-    let x : none32 ≤ abc = omega (arith, and-le-l abc d) in
-    let y : none32 ≤ ab = omega (arith, and-le-l ab c) in
-    (omega (arith, and-le-l a b), omega (arith, and-le-r a b), omega (arith, and-le-r ab c), omega (arith, and-le-r abc d))
+-- ---- four words in a row, one by one; eight
+all-four : (r : List ℕ) (f v : ℕ) → getD r f 0 ≡ v → getD r (f + 1) 0 ≡ v → getD r (f + 2) 0 ≡ v → getD r (f + 3) 0 ≡ v → AllFrom r f 4 v
+all-four r f v a b c d zero q = let e : f + 0 ≡ f = omega arith in rw e a
+all-four r f v a b c d (suc zero) q = b
+all-four r f v a b c d (suc (suc zero)) q = c
+all-four r f v a b c d (suc (suc (suc zero))) q = d
+all-four r f v a b c d (suc (suc (suc (suc i)))) q = absurd (omega (arith, q))
 
-pub eight-and : (r : List ℕ) (f : ℕ) → ((i : ℕ) → getD r i 0 ≤ none32)
-    → bitAnd (bitAnd (bitAnd (bitAnd (getD r (f + 0) 0) (getD r (f + 1) 0)) (getD r (f + 2) 0)) (getD r (f + 3) 0))
-    (bitAnd (bitAnd (bitAnd (getD r (f + 4) 0) (getD r (f + 5) 0)) (getD r (f + 6) 0)) (getD r (f + 7) 0)) ≡ none32 → NoneFrom r f 8
-eight-and r f s e = go
+all-eight : (r : List ℕ) (f v : ℕ) → AllFrom r f 4 v → AllFrom r (f + 4) 4 v → AllFrom r f 8 v
+all-eight r f v a b i q = go (ltb i 4) refl
   where
-    g : ℕ → ℕ
-    g i = getD r (f + i) 0
+    go : (t : Bool) → ltb i 4 ≡ t → getD r (f + i) 0 ≡ v
+    go true e = a i (ltb-true i 4 e)
+    go false e =
+        let g = ltb-false i 4 e in
+        let z : f + 4 + (i - 4) ≡ f + i = omega (arith, g) in
+        rw z at (b (i - 4) (omega (arith, g, q)))
 
-    low : ℕ
-    low = bitAnd (bitAnd (bitAnd (g 0) (g 1)) (g 2)) (g 3)
+-- words whose `&` is none are none, as it is at most each of them
+four-none : (r : List ℕ) (f : ℕ) → ((i : ℕ) → getD r i 0 ≤ none32) → none32 ≤ fourAnd r f → AllFrom r f 4 none32
+four-none r f s h =
+    let a : ℕ = getD r f 0 in
+    let b : ℕ = getD r (f + 1) 0 in
+    let c : ℕ = getD r (f + 2) 0 in
+    let d : ℕ = getD r (f + 3) 0 in
+    let x : none32 ≤ bitAnd (bitAnd a b) c = omega (arith, h, and-le-l (bitAnd (bitAnd a b) c) d) in
+    let y : none32 ≤ bitAnd a b = omega (arith, x, and-le-l (bitAnd a b) c) in
+    all-four r f none32 (omega (arith, y, and-le-l a b, s f)) (omega (arith, y, and-le-r a b, s (f + 1)))
+    (omega (arith, x, and-le-r (bitAnd a b) c, s (f + 2))) (omega (arith, h, and-le-r (bitAnd (bitAnd a b) c) d, s (f + 3)))
 
-    high : ℕ
-    high = bitAnd (bitAnd (bitAnd (g 4) (g 5)) (g 6)) (g 7)
+pub eight-none : (r : List ℕ) (f x y : ℕ) → ((i : ℕ) → getD r i 0 ≤ none32) → x ≡ fourAnd r f → y ≡ fourAnd r (f + 4) → bitAnd x y ≡ none32 → AllFrom r f 8 none32
+eight-none r f x y s ex ey e =
+    all-eight r f none32 (four-none r f s (omega (arith, ex, e, and-le-l x y))) (four-none r (f + 4) s (omega (arith, ey, e, and-le-r x y)))
 
-    x : (none32 ≤ g 0) × (none32 ≤ g 1) × (none32 ≤ g 2) × (none32 ≤ g 3)
-    x = four-and (g 0) (g 1) (g 2) (g 3) (omega (arith, e, and-le-l low high))
+-- words whose `|` is 0 are 0
+two-zero : (a b : ℕ) → bitOr a b ≡ 0 → (a ≡ 0) × (b ≡ 0)
+two-zero a b e = (omega (arith, e, or-add-and a b, and-le-r a b), omega (arith, e, or-add-and a b, and-le-l a b))
 
-    y : (none32 ≤ g 4) × (none32 ≤ g 5) × (none32 ≤ g 6) × (none32 ≤ g 7)
-    y = four-and (g 4) (g 5) (g 6) (g 7) (omega (arith, e, and-le-r low high))
+four-zero : (r : List ℕ) (f : ℕ) → fourOr r f ≡ 0 → AllFrom r f 4 0
+four-zero r f e =
+    let x = two-zero _ _ e in
+    let y = two-zero _ _ (x .0) in
+    let z = two-zero _ _ (y .0) in
+    all-four r f 0 (z .0) (z .1) (y .1) (x .1)
 
-    go : (i : ℕ) → i < 8 → g i ≡ none32
-    go zero h = omega (arith, x .0, s (f + 0))
-    go (suc zero) h = omega (arith, x .1, s (f + 1))
-    go (suc (suc zero)) h = omega (arith, x .2, s (f + 2))
-    go (suc (suc (suc zero))) h = omega (arith, x .3, s (f + 3))
-    go (suc (suc (suc (suc zero)))) h = omega (arith, y .0, s (f + 4))
-    go (suc (suc (suc (suc (suc zero))))) h = omega (arith, y .1, s (f + 5))
-    go (suc (suc (suc (suc (suc (suc zero)))))) h = omega (arith, y .2, s (f + 6))
-    go (suc (suc (suc (suc (suc (suc (suc zero))))))) h = omega (arith, y .3, s (f + 7))
-    go (suc (suc (suc (suc (suc (suc (suc (suc i)))))))) h = absurd (omega (arith, h))
+pub eight-zero : (r : List ℕ) (f x y : ℕ) → x ≡ fourOr r f → y ≡ fourOr r (f + 4) → bitOr x y ≡ 0 → AllFrom r f 8 0
+eight-zero r f x y ex ey e =
+    let t = two-zero x y e in
+    all-eight r f 0 (four-zero r f (sym ex ∙ t .0)) (four-zero r (f + 4) (sym ey ∙ t .1))
 
 -- ---- a run of empty lists: none yet, one more, one run after the other
 pub skipped-none : (r : List ℕ) (i : ℕ) → i ≤ 200 → Skipped r i i
@@ -125,17 +135,25 @@ pub skipped-bin : (r : List ℕ) (i j f : ℕ) → 74 ≤ j → j < 200 → f �
 skipped-bin r i j f g l e s h t =
     skipped-one r i j l s (bin-empty r j g (ap (λ (n : ℕ). getD r n 0) (sym e) ∙ h) (ap (λ (n : ℕ). getD r n 0) (omega (arith, e)) ∙ t))
 
-pub skipped-four : (r : List ℕ) (i j f : ℕ) → 74 ≤ j → j < 197 → f ≡ binFirst (j - 73) → Skipped r i j → NoneFrom r f 8 → Skipped r i (j + 4)
+-- several at once
+skipped-run : (r : List ℕ) (i j n : ℕ) → j + n ≤ 200 → Skipped r i j → ((k : ℕ) → k < n → Empty r (kindAt (j + k))) → Skipped r i (j + n)
+skipped-run r i j n h s e = skipped-then r i j (j + n) s (record {
+  low = omega arith;
+  high = h;
+  empty = λ x p q. let z : j + (x - j) ≡ x = omega (arith, p) in rw z at (e (x - j) (omega (arith, p, q)));
+})
+
+pub skipped-caches : (r : List ℕ) (i j : ℕ) → j < 57 → Skipped r i j → AllFrom r (cacheHead j) 8 none32 → AllFrom r (cacheCount j) 8 0 → Skipped r i (j + 8)
+skipped-caches r i j l s h e =
+    skipped-run r i j 8 (omega (arith, l)) s
+    (λ k q. cache-empty r (j + k) (omega (arith, l, q)) (rw (← add-assoc 3 j k) (h k q)) (rw (← add-assoc 67 j k) (e k q)))
+
+pub skipped-four : (r : List ℕ) (i j f : ℕ) → 74 ≤ j → j < 197 → f ≡ binFirst (j - 73) → Skipped r i j → AllFrom r f 8 none32 → Skipped r i (j + 4)
 skipped-four r i j f g l e s h =
-    let w : (k : ℕ) → k < 8 → getD r (binFirst (j - 73) + k) 0 ≡ none32 = λ k q. ap (λ (n : ℕ). getD r (n + k) 0) (sym e) ∙ h k q in
-    let one : (k : ℕ) → k < 4 → Skipped r i (j + k) → Skipped r i (j + k + 1) = λ k q z.
-    skipped-bin r i (j + k) (binFirst (j - 73) + 2 * k) (omega arith) (omega arith) (omega arith) z (w (2 * k) (omega arith)) (rw (add-assoc (binFirst (j - 73)) (2 * k) 1) (w (2 * k + 1) (omega arith))) in
-    let e₀ : j + 0 ≡ j = omega arith in
-    let e₁ : j + 0 + 1 ≡ j + 1 = omega arith in
-    let e₂ : j + 1 + 1 ≡ j + 2 = omega arith in
-    let e₃ : j + 2 + 1 ≡ j + 3 = omega arith in
-    let e₄ : j + 3 + 1 ≡ j + 4 = omega arith in
-    rw e₄ at (one 3 (omega arith) (rw e₃ at (one 2 (omega arith) (rw e₂ at (one 1 (omega arith) (rw e₁ at (one 0 (omega arith) (rw e₀ s))))))))
+    skipped-run r i j 4 (omega (arith, l)) s (λ k q.
+    let first : f + 2 * k ≡ binFirst (j + k - 73) = omega (arith, e, g) in
+    let last : f + (2 * k + 1) ≡ binLast (j + k - 73) = omega (arith, e, g) in
+    bin-empty r (j + k) (omega (arith, g)) (rw first at (h (2 * k) (omega (arith, q)))) (rw last at (h (2 * k + 1) (omega (arith, q)))))
 
 -- ---- a chunk in a bin: o says whether its size belongs, v is its back link
 pub bin-size : (j p c : ℕ) (w : List ℕ) (o : Bool) (s : ℕ) → s ≡ sizeAt w c → o ≡ either (eqb j 1) (eqb (binOf s) j) → o ≡ false → false ≡ fits (Bin j) w p 0 c

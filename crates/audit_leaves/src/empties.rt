@@ -3,17 +3,39 @@ ghost use mathlib.Core.Path.{_≡_};
 ghost use mathlib.Core.Bool.{true};
 ghost use Prim.Native.Nat.{_+_, _≤_};
 ghost use lib.ListN.{length};
-ghost use Rattle.audit_leaves.specs.Leaves.{NoneFrom, Skipped};
+ghost use Rattle.sizes.specs.Limits.{none32};
+ghost use Rattle.audit_leaves.specs.Leaves.{fourAnd, fourOr, AllFrom, Skipped};
 use sizes::NONE32;
 
-// Whether the eight words from f on, those of four bins, are all none: none has every bit set, and a bit is set in all of them or not in their `&`.
-fn four_none(r: &[u32], f: usize) -> bool
-    requires { ⌜ f + 8 ≤ length (now r) ⌝ }
-    ensures { λ v. ⌜ (v ≡ true → NoneFrom (now (r .entry)) f 8) ⌝ }
+// The bits that are set in all of four words, and those that are set in any of them.
+fn four_and(r: &[u32], f: usize) -> u32
+    requires { ⌜ f + 4 ≤ length (now r) ⌝ }
+    ensures { λ v. ⌜ v ≡ fourAnd (now (r .entry)) f ⌝ }
 {
-    let x = r[f + 0] & r[f + 1] & r[f + 2] & r[f + 3];
-    let y = r[f + 4] & r[f + 5] & r[f + 6] & r[f + 7];
-    x & y == NONE32
+    r[f] & r[f + 1] & r[f + 2] & r[f + 3]
+}
+
+fn four_or(r: &[u32], f: usize) -> u32
+    requires { ⌜ f + 4 ≤ length (now r) ⌝ }
+    ensures { λ v. ⌜ v ≡ fourOr (now (r .entry)) f ⌝ }
+{
+    r[f] | r[f + 1] | r[f + 2] | r[f + 3]
+}
+
+// Whether the eight words from f on are all none, which has every bit set.
+fn eight_none(r: &[u32], f: usize) -> bool
+    requires { ⌜ f + 8 ≤ length (now r) ⌝ }
+    ensures { λ v. ⌜ (v ≡ true → AllFrom (now (r .entry)) f 8 none32) ⌝ }
+{
+    four_and(r, f) & four_and(r, f + 4) == NONE32
+}
+
+// Whether they are all 0.
+fn eight_zero(r: &[u32], f: usize) -> bool
+    requires { ⌜ f + 8 ≤ length (now r) ⌝ }
+    ensures { λ v. ⌜ (v ≡ true → AllFrom (now (r .entry)) f 8 0) ⌝ }
+{
+    four_or(r, f) | four_or(r, f + 4) == 0
 }
 
 // The first list from number i on that is not empty, or 200, where i is a bin's. Four at a time, while there are four.
@@ -23,7 +45,7 @@ fn skip_bins(r: &[u32], i: u32) -> u32
 {
     let mut j = i;
     while j < 197 {
-        if !four_none(r, sizes::bin_first((j - 73) as usize)) {
+        if !eight_none(r, sizes::bin_first((j - 73) as usize)) {
             break;
         }
         j += 4;
@@ -65,8 +87,8 @@ fn skip_fast(r: &[u32], i: u32) -> u32
     skip_bins(r, j)
 }
 
-// The first list from number i on that is not empty, or 200.
-pub fn skip(r: &[u32], i: u32) -> u32
+// The same, cache list by cache list, where i may be any list's.
+fn skip_caches(r: &[u32], i: u32) -> u32
     requires { ⌜ (length (now r) ≡ 393) × (i ≤ 200) ⌝ }
     ensures { λ j. ⌜ Skipped (now (r .entry)) i j ⌝ }
 {
@@ -81,4 +103,22 @@ pub fn skip(r: &[u32], i: u32) -> u32
         j += 1;
     }
     skip_fast(r, j)
+}
+
+// The first list from number i on that is not empty, or 200. Eight cache lists at a time, while there are eight.
+pub fn skip(r: &[u32], i: u32) -> u32
+    requires { ⌜ (length (now r) ≡ 393) × (i ≤ 200) ⌝ }
+    ensures { λ j. ⌜ Skipped (now (r .entry)) i j ⌝ }
+{
+    let mut j = i;
+    while j < 57 {
+        if !eight_none(r, sizes::CACHE_HEADS + (j as usize)) {
+            break;
+        }
+        if !eight_zero(r, sizes::CACHE_COUNTS + (j as usize)) {
+            break;
+        }
+        j += 8;
+    }
+    skip_caches(r, j)
 }

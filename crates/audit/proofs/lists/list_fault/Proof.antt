@@ -1,7 +1,7 @@
 -- `lists::list_fault` meets its contract: the outer loop keeps Out, the inner one In, and each way out is a lemma of ListTurn. The measures are the lists
 -- to come, and the marks that are 1. Assumes nothing.
 use mathlib.Core.Path.{_≡_, refl, sym, ap, _∙_}
-use Prim.Native.Nat.{ℕ, _-_, _*_, _/_, _≤_}
+use Prim.Native.Nat.{ℕ, _-_, _*_, _/_, _≤_, _<_}
 use native.Mathlib.Omega.{arith}
 use lib.ListN.{length, length-set}
 use borrow.Author.Tests.{not-true, not-false}
@@ -17,7 +17,7 @@ use Rattle.audit.proofs.lists.list_fault.Statement.{statement}
 use Rattle.audit.proofs.lists.list_fault.Tie as tie
 
 abbrev Inv-loop : tie.InvT-loop
-Inv-loop a r m₀ fault₀ i j k v c₀ p₀ q₀ n₀ m fault c p q n = (length m ≡ length m₀) × (fault ≡ A.Sound) × In (arenaWords a) r m k i p q n c
+Inv-loop a r m₀ fault₀ i j k v c₀ p₀ q₀ n₀ m fault c p q n = (length m ≡ length m₀) × (fault ≡ A.Sound) × (j < 200) × In (arenaWords a) r m k j p q n c
 
 abbrev μ-loop : tie.MeasureT-loop
 μ-loop a r m₀ fault₀ i j k v c₀ p₀ q₀ n₀ m fault c p q n = cnt 1 m
@@ -34,16 +34,6 @@ lists-holds c = let s = c .before .before .before in (refl, refl, omega arith, l
 skip-requires : tie.Need-skip-requires Inv-loop μ-loop Inv-lists μ-lists
 skip-requires c κs = (c .before .before .before .before .before .pre .1, c .before .lists .inv .2)
 
-lists-less : tie.Need-lists-less Inv-loop μ-loop Inv-lists μ-lists
-lists-less c = search needs
-
-lists-again : tie.Need-lists-again Inv-loop μ-loop Inv-lists μ-lists
-lists-again c =
-    let s = c .before .before .before .before .before .before .before in
-    let o = c .before .before .before .lists in
-    let k = c .before .skip .ensures in
-    (o .inv .0, o .inv .1, k .high, list-skip (arenaWords (s .args .a .now)) (s .args .r .now) (o .m) (o .i) _ k (o .inv .3))
-
 kind-at-requires : tie.Need-kind-at-requires Inv-loop μ-loop Inv-lists μ-lists
 kind-at-requires c κs = search needs
 
@@ -51,13 +41,18 @@ mark-requires : tie.Need-mark-requires Inv-loop μ-loop Inv-lists μ-lists
 mark-requires c κs = search needs
 
 head-requires : tie.Need-head-requires Inv-loop μ-loop Inv-lists μ-lists
-head-requires c κs = (c .before .before .before .before .before .before .before .before .before .pre .1, kind-words _ _ (c .before .kind-at .ensures) (c .before .before .before .before .lists-test .taken) .0)
+head-requires c κs =
+    let lt : c .before .before .before .skip .result < 200 = omega (arith, c .before .before .before .skip .ensures .high, c .before .before .if1 .left) in
+    (c .before .before .before .before .before .before .before .before .before .pre .1, kind-words _ _ (c .before .kind-at .ensures) lt .0)
 
 loop-holds : tie.Need-loop-holds Inv-loop μ-loop Inv-lists μ-lists
 loop-holds c =
     let s = c .before .before .before .before .before .before .before .before .before .before in
     let o = c .before .before .before .before .before .before .lists in
-    (refl, o .inv .1, list-begin (arenaWords (s .args .a .now)) (s .args .r .now) _ _ _ _ _ (c .before .before .kind-at .ensures) (c .head .ensures) (c .before .before .before .before .before .lists-test .taken) (o .inv .3))
+    let k = c .before .before .before .before .skip .ensures in
+    let w = arenaWords (s .args .a .now) in
+    let lt : c .before .before .before .before .skip .result < 200 = omega (arith, k .high, c .before .before .before .if1 .left) in
+    (refl, o .inv .1, lt, list-begin w (s .args .r .now) _ _ _ _ _ (c .before .before .kind-at .ensures) (c .head .ensures) lt (list-skip w (s .args .r .now) (o .m) (o .i) _ k (o .inv .3)))
 
 unmet-requires : tie.Need-unmet-requires Inv-loop μ-loop Inv-lists μ-lists
 unmet-requires c κs = search needs
@@ -69,7 +64,7 @@ size-word-requires c κs =
     let w = arenaWords (s .args .a .now) in
     let len = arena-length (s .args .a .now) (s .pre .0 .arena) in
     let un = sym (c .before .unmet .ensures) ∙ not-false _ (c .if2 .left) in
-    let j = unmet-inside w (l .m) _ _ (l .inv .2 .marks) (l .c) un in
+    let j = unmet-inside w (l .m) _ _ (l .inv .3 .marks) (l .c) un in
     (j .0, omega (arith, j .1, len))
 
 size-requires : tie.Need-size-requires Inv-loop μ-loop Inv-lists μ-lists
@@ -82,9 +77,9 @@ fits-requires c κs =
     let w = arenaWords (s .args .a .now) in
     let len = arena-length (s .args .a .now) (s .pre .0 .arena) in
     let un = sym (c .before .before .before .unmet .ensures) ∙ not-false _ (c .before .before .if2 .left) in
-    let j = unmet-inside w (l .m) _ _ (l .inv .2 .marks) (l .c) un in
+    let j = unmet-inside w (l .m) _ _ (l .inv .3 .marks) (l .c) un in
     let e : c .size .result ≡ sizeAt w (l .c) = c .size .ensures ∙ ap (λ (x : ℕ). x / 16 * 16) (c .before .size-word .ensures) in
-    record { even = j .0; inside = omega (arith, j .1, len); size = e; before = l .inv .2 .sized }
+    record { even = j .0; inside = omega (arith, j .1, len); size = e; before = l .inv .3 .sized }
 
 slice-write-m : tie.Need-slice-write-m Inv-loop μ-loop Inv-lists μ-lists
 slice-write-m c =
@@ -96,7 +91,7 @@ add-n c =
     let s = c .before .before .before .before .before .before .before .before .before .before .before .before .before .before .before .before .before .before .before in
     let l = c .before .before .before .before .before .before .before .before .loop in
     let len = arena-length (s .args .a .now) (s .pre .0 .arena) in
-    omega (arith, l .inv .2 .few, len, s .pre .0 .arena .small)
+    omega (arith, l .inv .3 .few, len, s .pre .0 .arena .small)
 
 forward-requires : tie.Need-forward-requires Inv-loop μ-loop Inv-lists μ-lists
 forward-requires c κs =
@@ -105,7 +100,7 @@ forward-requires c κs =
     let w = arenaWords (s .args .a .now) in
     let len = arena-length (s .args .a .now) (s .pre .0 .arena) in
     let un = sym (c .before .before .before .before .before .unmet .ensures) ∙ not-false _ (c .before .before .before .before .if2 .left) in
-    let j = unmet-inside w (l .m) _ _ (l .inv .2 .marks) (l .c) un in
+    let j = unmet-inside w (l .m) _ _ (l .inv .3 .marks) (l .c) un in
     (j .0, omega (arith, j .1, len))
 
 loop-less : tie.Need-loop-less Inv-loop μ-loop Inv-lists μ-lists
@@ -121,25 +116,26 @@ loop-again c =
     let e : c .before .before .before .size .result ≡ sizeAt w (l .c) = c .before .before .before .size .ensures ∙ ap (λ (x : ℕ). x / 16 * 16) (c .before .before .before .before .size-word .ensures) in (
       length-set {A = ℕ} (l .m) (l .c / 16) _ ∙ l .inv .0,
       l .inv .1,
-      rw (c .forward .ensures, c .before .before .before .before .before .before .before .before .before .before .before .mark .ensures) (list-turn w (s .args .r .now) _ _ _ _ _ _ _ (l .inv .2) _ _ _ (c .before .before .before .before .before .before .before .before .loop-test .taken) (c .before .before .before .before .before .before .unmet .ensures) (not-false _ (c .before .before .before .before .before .if2 .left)) (c .before .before .fits2 .ensures) (not-false _ (c .before .if3 .left)) e),
+      l .inv .2,
+      rw (c .forward .ensures, c .before .before .before .before .before .before .before .before .before .before .before .mark .ensures) (list-turn w (s .args .r .now) _ _ _ _ _ _ _ (l .inv .3) _ _ _ (c .before .before .before .before .before .before .before .before .loop-test .taken) (c .before .before .before .before .before .before .unmet .ensures) (not-false _ (c .before .before .before .before .before .if2 .left)) (c .before .before .fits2 .ensures) (not-false _ (c .before .if3 .left)) e),
     )
 
 may-end-requires : tie.Need-may-end-requires Inv-loop μ-loop Inv-lists μ-lists
-may-end-requires c κs = (c .before .before .before .before .before .before .before .before .before .before .before .before .pre .1, kind-words _ _ (c .before .before .before .before .kind-at .ensures) (c .before .before .before .before .before .before .before .lists-test .taken) .1)
+may-end-requires c κs = (c .before .before .before .before .before .before .before .before .before .before .before .before .pre .1, kind-words _ _ (c .before .before .before .before .kind-at .ensures) (c .before .loop .inv .2) .1)
 
 add-i : tie.Need-add-i Inv-loop μ-loop Inv-lists μ-lists
 add-i c = search needs
 
-lists-less-2 : tie.Need-lists-less-2 Inv-loop μ-loop Inv-lists μ-lists
-lists-less-2 c = search needs
+lists-less : tie.Need-lists-less Inv-loop μ-loop Inv-lists μ-lists
+lists-less c = omega (arith, c .before .before .before .before .before .before .before .before .skip .ensures .low, c .before .before .before .loop .inv .2)
 
-lists-again-2 : tie.Need-lists-again-2 Inv-loop μ-loop Inv-lists μ-lists
-lists-again-2 c =
+lists-again : tie.Need-lists-again Inv-loop μ-loop Inv-lists μ-lists
+lists-again c =
     let s = c .before .before .before .before .before .before .before .before .before .before .before .before .before .before in
     let l = c .before .before .before .loop in
     let w = arenaWords (s .args .a .now) in
     let o = c .before .before .before .before .before .before .before .before .before .before .lists in
-    (l .inv .0 ∙ o .inv .0, l .inv .1, omega (arith, c .before .before .before .before .before .before .before .before .before .lists-test .taken), list-leave w (s .args .r .now) _ _ _ _ _ _ _ (l .inv .2) _ (c .before .before .loop-test .left) (c .before .may-end .ensures) (not-false _ (c .if4 .left)))
+    (l .inv .0 ∙ o .inv .0, l .inv .1, omega (arith, l .inv .2), list-leave w (s .args .r .now) _ _ _ _ _ _ _ (l .inv .3) _ (c .before .before .loop-test .left) (c .before .may-end .ensures) (not-false _ (c .if4 .left)))
 
 same-length : tie.Need-same-length Inv-loop μ-loop Inv-lists μ-lists
 same-length c = c .before .lists .inv .0
@@ -151,34 +147,44 @@ returns c =
     rw (o .inv .1) (lists-done (arenaWords (s .args .a .now)) (s .args .r .now) (o .m) (o .i) (c .lists-test .left) (o .inv .2) (o .inv .3))
 
 same-length-2 : tie.Need-same-length-2 Inv-loop μ-loop Inv-lists μ-lists
-same-length-2 c = c .before .before .before .before .loop .inv .0 ∙ c .before .before .before .before .before .before .before .before .before .before .before .lists .inv .0
+same-length-2 c = c .before .before .before .lists .inv .0
 
 returns-2 : tie.Need-returns-2 Inv-loop μ-loop Inv-lists μ-lists
 returns-2 c =
-    let s = c .before .before .before .before .before .before .before .before .before .before .before .before .before .before .before in
-    let l = c .before .before .before .before .loop in
+    let s = c .before .before .before .before .before .before .before in
+    let o = c .before .before .before .lists in
     let w = arenaWords (s .args .a .now) in
-    list-met w (s .args .r .now) _ _ _ _ _ _ _ (l .inv .2) _ _ (c .before .before .before .loop-test .taken) (c .before .unmet .ensures) (not-true _ (c .if2 .taken))
+    rw (o .inv .1) (lists-done w (s .args .r .now) (o .m) _ (omega (arith, c .if1 .taken)) (c .before .skip .ensures .high) (list-skip w (s .args .r .now) (o .m) (o .i) _ (c .before .skip .ensures) (o .inv .3)))
 
 same-length-3 : tie.Need-same-length-3 Inv-loop μ-loop Inv-lists μ-lists
-same-length-3 c = c .before .before .before .before .before .before .before .before .loop .inv .0 ∙ c .before .before .before .before .before .before .before .before .before .before .before .before .before .before .before .lists .inv .0
+same-length-3 c = c .before .before .before .before .loop .inv .0 ∙ c .before .before .before .before .before .before .before .before .before .before .before .lists .inv .0
 
 returns-3 : tie.Need-returns-3 Inv-loop μ-loop Inv-lists μ-lists
 returns-3 c =
-    let s = c .before .before .before .before .before .before .before .before .before .before .before .before .before .before .before .before .before .before .before in
-    let l = c .before .before .before .before .before .before .before .before .loop in
+    let s = c .before .before .before .before .before .before .before .before .before .before .before .before .before .before .before in
+    let l = c .before .before .before .before .loop in
     let w = arenaWords (s .args .a .now) in
-    list-unfit w (s .args .r .now) _ _ _ _ _ _ _ (l .inv .2) _ _ _ (c .before .before .before .before .before .before .before .loop-test .taken) (c .before .before .before .before .before .unmet .ensures) (not-false _ (c .before .before .before .before .if2 .left)) (c .before .fits2 .ensures) (not-true _ (c .if3 .taken))
+    list-met w (s .args .r .now) _ _ _ _ _ _ _ (l .inv .3) _ _ (c .before .before .before .loop-test .taken) (c .before .unmet .ensures) (not-true _ (c .if2 .taken))
 
 same-length-4 : tie.Need-same-length-4 Inv-loop μ-loop Inv-lists μ-lists
-same-length-4 c = c .before .before .before .loop .inv .0 ∙ c .before .before .before .before .before .before .before .before .before .before .lists .inv .0
+same-length-4 c = c .before .before .before .before .before .before .before .before .loop .inv .0 ∙ c .before .before .before .before .before .before .before .before .before .before .before .before .before .before .before .lists .inv .0
 
 returns-4 : tie.Need-returns-4 Inv-loop μ-loop Inv-lists μ-lists
 returns-4 c =
+    let s = c .before .before .before .before .before .before .before .before .before .before .before .before .before .before .before .before .before .before .before in
+    let l = c .before .before .before .before .before .before .before .before .loop in
+    let w = arenaWords (s .args .a .now) in
+    list-unfit w (s .args .r .now) _ _ _ _ _ _ _ (l .inv .3) _ _ _ (c .before .before .before .before .before .before .before .loop-test .taken) (c .before .before .before .before .before .unmet .ensures) (not-false _ (c .before .before .before .before .if2 .left)) (c .before .fits2 .ensures) (not-true _ (c .if3 .taken))
+
+same-length-5 : tie.Need-same-length-5 Inv-loop μ-loop Inv-lists μ-lists
+same-length-5 c = c .before .before .before .loop .inv .0 ∙ c .before .before .before .before .before .before .before .before .before .before .lists .inv .0
+
+returns-5 : tie.Need-returns-5 Inv-loop μ-loop Inv-lists μ-lists
+returns-5 c =
     let s = c .before .before .before .before .before .before .before .before .before .before .before .before .before .before in
     let l = c .before .before .before .loop in
     let w = arenaWords (s .args .a .now) in
-    list-end-bad w (s .args .r .now) _ _ _ _ _ _ _ (l .inv .2) _ _ (c .before .before .loop-test .left) (c .before .may-end .ensures) (not-true _ (c .if4 .taken))
+    list-end-bad w (s .args .r .now) _ _ _ _ _ _ _ (l .inv .3) _ _ (c .before .before .loop-test .left) (c .before .may-end .ensures) (not-true _ (c .if4 .taken))
 
 pub list-fault-spec : {M : Type 1} → statement M
 list-fault-spec =
@@ -190,8 +196,6 @@ list-fault-spec =
     μ-lists
     lists-holds
     skip-requires
-    lists-less
-    lists-again
     kind-at-requires
     mark-requires
     head-requires
@@ -207,8 +211,8 @@ list-fault-spec =
     loop-again
     may-end-requires
     add-i
-    lists-less-2
-    lists-again-2
+    lists-less
+    lists-again
     same-length
     returns
     same-length-2
@@ -216,4 +220,6 @@ list-fault-spec =
     same-length-3
     returns-3
     same-length-4
-    returns-4)
+    returns-4
+    same-length-5
+    returns-5)

@@ -1,7 +1,8 @@
--- `empties::skip` meets its contract: the cache lists passed are empty by their heads and counts. Assumes nothing.
+-- `empties::skip` meets its contract: eight cache lists at a time, and then one by one. Assumes nothing.
 use Prim.Native.Nat.{_-_}
 use Rattle.audit_leaves.specs.Leaves.{Skipped}
-use Rattle.audit_leaves.specs.Ways.{skipped-none, skipped-then, skipped-cache}
+use Rattle.audit_leaves.specs.Ways.{skipped-none, skipped-then, skipped-caches}
+use borrow.Author.Tests.{not-false}
 use borrow.Author.Needs.{needs}
 use Rattle.audit_leaves.proofs.empties.skip.Statement.{statement}
 use Rattle.audit_leaves.proofs.empties.skip.Tie as tie
@@ -15,35 +16,23 @@ abbrev μ-loop : tie.MeasureT-loop
 loop-holds : tie.Need-loop-holds Inv-loop μ-loop
 loop-holds c = skipped-none _ _ (c .before .pre .1)
 
-cast-if1 : tie.Need-cast-if1 Inv-loop μ-loop
-cast-if1 c = search needs
+cast-eight-none : tie.Need-cast-eight-none Inv-loop μ-loop
+cast-eight-none c = search needs
 
-add-if1 : tie.Need-add-if1 Inv-loop μ-loop
-add-if1 c = search needs
+add-eight-none : tie.Need-add-eight-none Inv-loop μ-loop
+add-eight-none c = search needs
 
-mul-if1 : tie.Need-mul-if1 Inv-loop μ-loop
-mul-if1 c = search needs
+eight-none-requires : tie.Need-eight-none-requires Inv-loop μ-loop
+eight-none-requires c κs = search needs
 
-shared-slice-read-if1 : tie.Need-shared-slice-read-if1 Inv-loop μ-loop
-shared-slice-read-if1 c = search needs
+cast-eight-zero : tie.Need-cast-eight-zero Inv-loop μ-loop
+cast-eight-zero c = search needs
 
-returns : tie.Need-returns Inv-loop μ-loop
-returns c = search needs
+add-eight-zero : tie.Need-add-eight-zero Inv-loop μ-loop
+add-eight-zero c = search needs
 
-cast-if2 : tie.Need-cast-if2 Inv-loop μ-loop
-cast-if2 c = search needs
-
-add-if2 : tie.Need-add-if2 Inv-loop μ-loop
-add-if2 c = search needs
-
-mul-if2 : tie.Need-mul-if2 Inv-loop μ-loop
-mul-if2 c = search needs
-
-shared-slice-read-if2 : tie.Need-shared-slice-read-if2 Inv-loop μ-loop
-shared-slice-read-if2 c = search needs
-
-returns-2 : tie.Need-returns-2 Inv-loop μ-loop
-returns-2 c = search needs
+eight-zero-requires : tie.Need-eight-zero-requires Inv-loop μ-loop
+eight-zero-requires c κs = search needs
 
 add-j : tie.Need-add-j Inv-loop μ-loop
 add-j c = search needs
@@ -54,13 +43,14 @@ loop-less c = search needs
 loop-again : tie.Need-loop-again Inv-loop μ-loop
 loop-again c =
     let l = c .before .before .before .before .before .loop in
-    skipped-cache _ _ _ (c .before .before .before .before .loop-test .taken) (l .inv) (c .before .before .if1 .left) (c .if2 .left)
+    skipped-caches _ _ _ (c .before .before .before .before .loop-test .taken) (l .inv) (c .before .before .before .eight-none .ensures (not-false _ (c .before .before .if1 .left)))
+    (c .before .eight-zero .ensures (not-false _ (c .if2 .left)))
 
-skip-fast-requires : tie.Need-skip-fast-requires Inv-loop μ-loop
-skip-fast-requires c κs = (c .before .before .before .pre .0, c .loop-test .left, c .before .loop .inv .high)
+skip-caches-requires : tie.Need-skip-caches-requires Inv-loop μ-loop
+skip-caches-requires c κs = search needs
 
-returns-3 : tie.Need-returns-3 Inv-loop μ-loop
-returns-3 c = skipped-then _ _ _ _ (c .before .before .loop .inv) (c .skip-fast .ensures)
+returns : tie.Need-returns Inv-loop μ-loop
+returns c = skipped-then _ _ _ _ (c .before .before .loop .inv) (c .skip-caches .ensures)
 
 pub skip-spec : {M : Type 1} → statement M
 skip-spec =
@@ -69,18 +59,14 @@ skip-spec =
     Inv-loop
     μ-loop
     loop-holds
-    cast-if1
-    add-if1
-    mul-if1
-    shared-slice-read-if1
-    returns
-    cast-if2
-    add-if2
-    mul-if2
-    shared-slice-read-if2
-    returns-2
+    cast-eight-none
+    add-eight-none
+    eight-none-requires
+    cast-eight-zero
+    add-eight-zero
+    eight-zero-requires
     add-j
     loop-less
     loop-again
-    skip-fast-requires
-    returns-3)
+    skip-caches-requires
+    returns)

@@ -26,8 +26,8 @@ cast-bin-first c = search needs
 bin-first-requires : tie.Need-bin-first-requires Inv-loop μ-loop
 bin-first-requires c κs = search needs
 
-four-none-requires : tie.Need-four-none-requires Inv-loop μ-loop
-four-none-requires c κs = search needs
+eight-none-requires : tie.Need-eight-none-requires Inv-loop μ-loop
+eight-none-requires c κs = search needs
 
 add-j : tie.Need-add-j Inv-loop μ-loop
 add-j c = search needs
@@ -40,7 +40,7 @@ loop-again c =
     let l = c .before .before .before .before .loop in
     let p = c .before .before .before .before .before .before .pre in
     skipped-four _ _ _ _ (omega (arith, l .inv .low, p .1)) (c .before .before .before .loop-test .taken) (c .before .before .bin-first .ensures) (l .inv)
-    (c .before .four-none .ensures (not-false _ (c .if1 .left)))
+    (c .before .eight-none .ensures (not-false _ (c .if1 .left)))
 
 skip-one-by-one-requires : tie.Need-skip-one-by-one-requires Inv-loop μ-loop
 skip-one-by-one-requires c κs = search needs
@@ -58,7 +58,7 @@ skip-bins-spec =
     sub-bin-first
     cast-bin-first
     bin-first-requires
-    four-none-requires
+    eight-none-requires
     add-j
     loop-less
     loop-again
