@@ -1,5 +1,6 @@
 pub mod Blank
 pub mod Ways
+pub mod CacheList
 pub mod Through
 pub mod Grants
 pub mod Bytes

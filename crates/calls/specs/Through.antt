@@ -1,6 +1,6 @@
 -- A call that passed its audit: the words are those of the heap that the bytes spell, and what the steps below did with it is what the machine's call does.
 -- Assumes nothing.
-use mathlib.Core.Path.{_≡_, sym, ap, _∙_, subst}
+use mathlib.Core.Path.{_≡_, refl, sym, ap, _∙_, subst}
 use mathlib.Core.Bool.{Bool, true, false}
 use mathlib.Core.List.{List}
 use mathlib.Core.Logic.{_⊎_, ⊎-elim}
@@ -14,6 +14,7 @@ use Rattle.le.specs.Arena.{arenaWords}
 use Rattle.le.specs.NumberLaws.{number-small}
 use Rattle.le.specs.WordsLaws.{length-words, getD-words}
 use Rattle.machine.specs.Heap.{Heap, live?}
+use Rattle.machine.specs.Writes.{Ran, ran, giving}
 use Rattle.machine.specs.Release.{release, settle}
 use Rattle.machine.specs.Audit.{sound?, auditOf}
 use Rattle.machine.specs.Calls.{after, arenaAllowed?, shape?, wordsOf, heapIn, releaseCall, settleCall}
@@ -32,7 +33,7 @@ use Rattle.audit.specs.Exact.{audit-sound}
 use Rattle.audit.specs.Looks.{liveMem?, lookAt, look-is-faulty, look-is-live, look-is-dead}
 use Rattle.audit.specs.declared.look.Look.{Look}
 use Rattle.audit.specs.declared.look.Look.the-variants.{Faulty, NotLive, Live}
-use Rattle.fields.specs.Follow.{Ok, Has, Does}
+use Rattle.fields.specs.Follow.{Ok, Has, answer, Gave, Does}
 use Rattle.calls.specs.Ways.{Octets, kept, allowed-true, shape-true, settle-unsound, settle-done, release-unsound, release-null, release-dead, release-done}
 
 -- good buffers, and the record's words q
@@ -123,11 +124,18 @@ lives-has a r q m c v =
     let k = came-sound a r q c (v .sound) in
     subst (Has (λ h. Good h × Loose h (m - 16)) (arenaWords a)) (sym (c .words)) (record { heap = heapIn a r; ok = sound-ok k; holds = (k .good, v .loose) })
 
-pub release-through : (a r q b v p : List ℕ) (m g : ℕ) → Came a r q → Lives a r m → Octets b
-    → Does ℕ (λ h. Good h × Loose h (m - 16)) (release (m - 16)) (arenaWords a) q g (arenaWords b) p → v ≡ bytes 4 p → after b v Done ≡ releaseCall a r m
-release-through a r q b v p m g c i o d z =
+-- whatever a step answers
+answers : {A : Type 0} (s : Ran A) {w v q : List ℕ} → Gave (Unit {0}) (giving tt s) tt w v q → Gave A s (answer s) w v q
+answers (ran h ws x) m = record { says = refl; bytes = m .bytes; rec = m .rec }
+
+pub release-through : (a r q b v p : List ℕ) (m : ℕ) → Came a r q → Lives a r m → Octets b
+    → Does (Unit {0}) (λ h. Good h × Loose h (m - 16)) (λ h. giving tt (release (m - 16) h)) (arenaWords a) q tt (arenaWords b) p → v ≡ bytes 4 p
+    → after b v Done ≡ releaseCall a r m
+release-through a r q b v p m c i o d z =
     let k = came-sound a r q c (i .sound) in
     let n : eqb m 0 ≡ false = ne-eqb m 0 (λ y. omega (arith, i .low)) in
     kept b v p Done z
-    (release-done a r b p m g (came-shape a r q c) (i .sound) n (i .live) o
-    (subst (λ (l : List ℕ). Does ℕ (λ h. Good h × Loose h (m - 16)) (release (m - 16)) (arenaWords a) l g (arenaWords b) p) (c .words) d .does (heapIn a r) (sound-ok k) (k .good, i .loose)))
+    (release-done a r b p m (answer (release (m - 16) (heapIn a r))) (came-shape a r q c) (i .sound) n (i .live) o
+    (answers (release (m - 16) (heapIn a r))
+    (subst (λ (l : List ℕ). Does (Unit {0}) (λ h. Good h × Loose h (m - 16)) (λ h. giving tt (release (m - 16) h)) (arenaWords a) l tt (arenaWords b) p) (c .words) d
+    .does (heapIn a r) (sound-ok k) (k .good, i .loose))))

@@ -1,11 +1,17 @@
 // Grant: numbers 1, 2, 3 before the first write; then the steps; number 5 leaves what they did.
 ghost use mathlib.Core.Path.{_≡_};
-ghost use Prim.Native.Nat.{_+_};
+ghost use Prim.Native.Nat.{_+_, _%_, _≤_};
+ghost use lib.ListN.{length};
+ghost use Rattle.le.specs.Number.{bytes};
 ghost use Rattle.le.specs.Arena.{arenaWords};
 ghost use Rattle.sizes.specs.Sizes.{usable};
 ghost use Rattle.machine.specs.View.{sizeAt};
-ghost use Rattle.machine.specs.Calls.{after, grantCall};
+ghost use Rattle.machine.specs.Grant.{grant};
+ghost use Rattle.machine.specs.Calls.{after, wordsOf, grantCall};
+ghost use Rattle.sound.specs.Relation.{Good};
+ghost use Rattle.fields.specs.Follow.{Has, Does};
 ghost use Rattle.calls.specs.Grants.{Stands};
+use crate::cached::put_cache;
 use crate::shape::allowed;
 use machine::Answer;
 use machine::Got;
@@ -26,6 +32,21 @@ fn granted_at(a: &[u8], c: u32) -> Answer
         mem: m,
         usable: u as u32,
     }
+}
+
+// Steps 1 to 9 on a sound heap, and the record's bytes: a chunk from the cache changes two words of them, the other ways any.
+fn find(arena: &mut [u8], control: &mut [u8], r: &mut [u32], b: u64) -> Got
+    requires { ⌜ (b % 16 ≡ 0) × (32 ≤ b) × (b ≤ 262160) × Has Good (arenaWords (now arena)) (now r) × (length (now control) ≡ 1572) × (now r ≡ wordsOf (now control)) ⌝ }
+    ensures { λ g. ⌜ Does Got Good (grant b) (arenaWords (now (arena .entry))) (now (r .entry)) g (arenaWords (now (arena .exit))) (now (r .exit)) × (now (control .exit) ≡ bytes 4 (now (r .exit))) ⌝ }
+{
+    let g1 = takes::step1(arena, r, b);
+    if let Got::At(c) = g1 {
+        put_cache(control, r, sizes::cache_list(b));
+        return Got::At(c);
+    }
+    let g = grants::seek(arena, r, b);
+    le::write_words(control, r);
+    g
 }
 
 pub fn grant(arena: &mut [u8], control: &mut [u8], n: u64) -> Answer
@@ -49,8 +70,7 @@ pub fn grant(arena: &mut [u8], control: &mut [u8], n: u64) -> Answer
             if !machine::is_sound(f) {
                 return Answer::Refused(Refusal::Unsound);
             }
-            let g = grants::grant(arena, &mut r, b);
-            le::write_words(control, &r);
+            let g = find(arena, control, &mut r, b);
             match g {
                 Got::Nothing => {
                     return Answer::Refused(Refusal::NoRoom);

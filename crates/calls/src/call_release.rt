@@ -1,11 +1,34 @@
 // Release: numbers 1, 3, 4 before the first write; null does nothing and succeeds.
 ghost use mathlib.Core.Path.{_≡_};
-ghost use Rattle.machine.specs.Calls.{after, releaseCall};
+ghost use lib.ListN.{length};
+ghost use Rattle.le.specs.Number.{bytes};
+ghost use Rattle.le.specs.Arena.{arenaWords};
+ghost use Rattle.machine.specs.Writes.{giving};
+ghost use Rattle.machine.specs.Release.{release};
+ghost use Rattle.machine.specs.Calls.{after, wordsOf, releaseCall};
+ghost use Rattle.sound.specs.Relation.{Loose, Good};
+ghost use Rattle.fields.specs.Follow.{Has, Does};
+use crate::cached::put_cache;
 use crate::shape::allowed;
 use audit::Look;
 use machine::Answer;
 use machine::Refusal;
+use sizes::CACHE_LISTS;
 use sizes::RECORD_BYTES;
+
+// The loose chunk c of a sound heap is released, and the record's bytes: c in the cache changes two words of them, the other ways any.
+fn give_back(arena: &mut [u8], control: &mut [u8], r: &mut [u32], c: u64)
+    requires { ⌜ Has (λ h. Good h × Loose h c) (arenaWords (now arena)) (now r) × (length (now control) ≡ 1572) × (now r ≡ wordsOf (now control)) ⌝ }
+    ensures { λ _. ⌜ Does (Unit {0}) (λ h. Good h × Loose h c) (λ h. giving tt (release c h)) (arenaWords (now (arena .entry))) (now (r .entry)) tt (arenaWords (now (arena .exit))) (now (r .exit)) × (now (control .exit) ≡ bytes 4 (now (r .exit))) ⌝ }
+{
+    let k = joins::to_cache(arena, r, c);
+    if k < CACHE_LISTS {
+        put_cache(control, r, k);
+        return;
+    }
+    joins::release_past(arena, r, c);
+    le::write_words(control, r);
+}
 
 pub fn release(arena: &mut [u8], control: &mut [u8], mem: u64) -> Answer
     ensures { λ x. ⌜ after (now (arena .exit)) (now (control .exit)) x ≡ releaseCall (now (arena .entry)) (now (control .entry)) mem ⌝ }
@@ -30,8 +53,7 @@ pub fn release(arena: &mut [u8], control: &mut [u8], mem: u64) -> Answer
             return Answer::Refused(Refusal::NotLive);
         }
         Look::Live => {
-            joins::release(arena, &mut r, mem - 16);
-            le::write_words(control, &r);
+            give_back(arena, control, &mut r, mem - 16);
             return Answer::Done;
         }
     }

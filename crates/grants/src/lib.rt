@@ -1,4 +1,4 @@
-// Grant: document 01's steps in their order, each where those before it found nothing.
+// Grant behind the cache: document 01's steps 2 to 9 in their order, each where those before it found nothing.
 use joins::consolidate;
 use machine::Got;
 use sizes::LARGE;
@@ -6,7 +6,7 @@ use takes::any_fast;
 ghost use mathlib.Core.Path.{_≡_};
 ghost use Prim.Native.Nat.{_%_, _≤_};
 ghost use Rattle.le.specs.Arena.{arenaWords};
-ghost use Rattle.machine.specs.Grant.{step4, pass, again, from4, seek, grant};
+ghost use Rattle.machine.specs.Grant.{step4, pass, again, from4, seek};
 ghost use Rattle.sound.specs.Relation.{Good};
 ghost use Rattle.fields.specs.Follow.{Has, Does};
 
@@ -81,15 +81,4 @@ pub fn seek(a: &mut [u8], r: &mut [u32], b: u64) -> Got
         return Got::At(c);
     }
     from4(a, r, b)
-}
-
-pub fn grant(a: &mut [u8], r: &mut [u32], b: u64) -> Got
-    requires { ⌜ (b % 16 ≡ 0) × (32 ≤ b) × (b ≤ 262160) × Has Good (arenaWords (now a)) (now r) ⌝ }
-    ensures { λ g. ⌜ Does Got Good (grant b) (arenaWords (now (a .entry))) (now (r .entry)) g (arenaWords (now (a .exit))) (now (r .exit)) ⌝ }
-{
-    let g = takes::step1(a, r, b);
-    if let Got::At(c) = g {
-        return Got::At(c);
-    }
-    seek(a, r, b)
 }

@@ -1,5 +1,5 @@
 -- Release as the code does it follows the machine: one lemma for each way. Assumes nothing.
-use mathlib.Core.Path.{_≡_, sym, ap, _∙_}
+use mathlib.Core.Path.{_≡_, refl, sym, ap, _∙_}
 use mathlib.Core.List.{List}
 use Prim.Native.Nat.{ℕ, _≤_, _<_}
 use native.Mathlib.Omega.{arith}
@@ -9,7 +9,7 @@ use Rattle.sizes.specs.Limits.{mostCached, cacheRoom, mostFast}
 use Rattle.sizes.specs.Layout.{cacheCount}
 use Rattle.sizes.specs.Sizes.{cacheOf, fastOf}
 use Rattle.machine.specs.Heap.{Heap, stack, cache, fastAt, sizeOf}
-use Rattle.machine.specs.Writes.{giving}
+use Rattle.machine.specs.Writes.{heapOf, giving}
 use Rattle.machine.specs.Primitives.{push, pushCache}
 use Rattle.machine.specs.Release.{join, releasePast, release}
 use Rattle.machine.specs.View.{sizeAt}
@@ -18,6 +18,7 @@ use Rattle.fields.specs.Follow.{Ok, Gave, Does}
 use Rattle.fields.specs.FollowLaws.{gave-by, gave-giving}
 use Rattle.prims.specs.Stacks.{ok-cacheCount}
 use Rattle.joins.specs.Reads.{loose-reads}
+use Rattle.joins.specs.Offered.{Offered}
 
 -- ---- the machine's steps by their tests, at a chunk of size z
 past-fast : (c z : ℕ) (h : Heap) → sizeOf h c ≡ z → z ≤ 128 → releasePast c h ≡ giving 0 (push (fastAt (fastOf z)) c h)
@@ -61,25 +62,47 @@ module _ (h : Heap) (w r : List ℕ) (c z : ℕ) (o : Ok h w r) (lo : Loose h c)
   pub past-join-gave : {v q : List ℕ} {s : ℕ} → 128 < z → Good h → Does ℕ (λ h. Good h × Loose h c) (join c) w r s v q → Gave ℕ (releasePast c h) s w v q
   past-join-gave l g D = gave-by (past-join c z h size-is l) (D .does h o (g, lo))
 
-  module _ (k n : ℕ) (l : z ≤ 1040) (ek : (k ≡ cacheOf z) × (k < 64)) (en : n ≡ getD r (cacheCount k) 0) where
+  module _ (k n : ℕ) (ek : (k ≡ cacheOf z) × (k < 64)) (en : n ≡ getD r (cacheCount k) 0) where
     count-is : n ≡ length (stack h k)
     count-is = en ∙ ok-cacheCount h w r o k (ek .1)
+
+    own-count : n ≡ length (stack h (cacheOf z))
+    own-count = count-is ∙ ap (λ (k : ℕ). length (stack h k)) (ek .0)
 
     pub cached-room : n < 7 → Loose h c × (length (stack h k) < 7)
     cached-room m = (lo, omega (arith, count-is))
 
-    pub release-cached-gave : {v q : List ℕ} → n < 7 → Does (Unit {0}) (λ h. Loose h c × (length (stack h k) < 7)) (push k c) w r tt v q
-        → Gave ℕ (release c h) 0 w v q
-    release-cached-gave m D =
-        gave-by (release-cached c z h size-is l (omega (arith, count-is, ap (λ (k : ℕ). length (stack h k)) (ek .0)))
-        ∙ ap (λ (k : ℕ). giving 0 (pushCache k c h)) (sym (ek .0)))
-        (gave-giving (push k c h) tt 0 (D .does h o (cached-room m)))
+    cached-is : z ≤ 1040 → n < 7 → release c h ≡ giving 0 (pushCache k c h)
+    cached-is l m = release-cached c z h size-is l (omega (arith, own-count)) ∙ ap (λ (k : ℕ). giving 0 (pushCache k c h)) (sym (ek .0))
 
-    pub release-full-gave : {v q : List ℕ} {s : ℕ} → 7 ≤ n → Good h → Does ℕ (λ h. Good h × Loose h c) (releasePast c) w r s v q
-        → Gave ℕ (release c h) s w v q
-    release-full-gave m g D = gave-by (release-full c z h size-is l (omega (arith, count-is, ap (λ (k : ℕ). length (stack h k)) (ek .0))))
-        (D .does h o (g, lo))
+    full-is : z ≤ 1040 → 7 ≤ n → release c h ≡ releasePast c h
+    full-is l m = release-full c z h size-is l (omega (arith, own-count))
 
-  pub release-large-gave : {v q : List ℕ} {s : ℕ} → 1040 < z → Good h → Does ℕ (λ h. Good h × Loose h c) (releasePast c) w r s v q
-      → Gave ℕ (release c h) s w v q
-  release-large-gave l g D = gave-by (release-large c z h size-is l) (D .does h o (g, lo))
+  large-is : 1040 < z → release c h ≡ releasePast c h
+  large-is l = release-large c z h size-is l
+
+-- ---- the cache is tried
+module _ (w r : List ℕ) (c z : ℕ) (ez : z ≡ sizeAt w c) where
+  no-room : ((h : Heap) → Ok h w r → Loose h c → release c h ≡ releasePast c h) → Offered c 64 w r w r
+  no-room p = record { cached = λ l. absurd (omega arith); kept = λ l. record { arena = refl; rec = refl; past = p } }
+
+  pub offered-large : 1040 < z → Offered c 64 w r w r
+  offered-large l = no-room (λ h o lo. large-is h w r c z o lo ez l)
+
+  module _ (k n : ℕ) (l : z ≤ 1040) (ek : (k ≡ cacheOf z) × (k < 64)) (en : n ≡ getD r (cacheCount k) 0) where
+    pub offered-full : 7 ≤ n → Offered c 64 w r w r
+    offered-full m = no-room (λ h o lo. full-is h w r c z o lo ez k n ek en l m)
+
+    pub offered-cached : {v q : List ℕ} → n < 7 → Does (Unit {0}) (λ h. Loose h c × (length (stack h k) < 7)) (push k c) w r tt v q → Offered c k w r v q
+    offered-cached m D = record {
+      cached = λ b. record {
+        own = λ h o lo. ek .0 ∙ ap cacheOf (sym (size-is h w r c z o lo ez));
+        heap = λ h o lo. ap heapOf (cached-is h w r c z o lo ez k n ek en l m);
+        does = record {
+          does = λ h o lo.
+              gave-by (cached-is h w r c z o lo ez k n ek en l m)
+              (gave-giving (push k c h) tt 0 (D .does h o (cached-room h w r c z o lo ez k n ek en m)));
+        };
+      };
+      kept = λ b. absurd (omega (arith, ek .1));
+    }

@@ -29,11 +29,12 @@ ghost use mathlib.Core.Path.{_≡_};
 ghost use Prim.Native.Nat.{ℕ, _<_};
 ghost use Rattle.le.specs.Arena.{arenaWords};
 ghost use Rattle.machine.specs.Heap.{fastAt};
-ghost use Rattle.machine.specs.Release.{absorb, joinNext, putDown, join, releasePast, release, consolidate, emptying, joining, settle};
+ghost use Rattle.machine.specs.Release.{absorb, joinNext, putDown, join, releasePast, consolidate, emptying, joining, settle};
 ghost use Rattle.machine.specs.View.{sizeAt};
 ghost use Rattle.sound.specs.Relation.{Good, Loose};
 ghost use Rattle.fields.specs.Follow.{Has, Does};
 ghost use Rattle.joins.specs.States.{Taking, Open, joinRest};
+ghost use Rattle.joins.specs.Offered.{Offered};
 ghost use Rattle.joins.specs.Drain.{drainOf};
 
 // x, of size zx, leaves its bin, and c takes in the chunk after it: s is the whole's size.
@@ -118,19 +119,20 @@ pub fn release_past(a: &mut [u8], r: &mut [u32], c: u64) -> u64
     join(a, r, c)
 }
 
-pub fn release(a: &mut [u8], r: &mut [u32], c: u64) -> u64
-    requires { ⌜ Has (λ h. Good h × Loose h c) (arenaWords (now a)) (now r) ⌝ }
-    ensures { λ s. ⌜ Does ℕ (λ h. Good h × Loose h c) (release c) (arenaWords (now (a .entry))) (now (r .entry)) s (arenaWords (now (a .exit))) (now (r .exit)) ⌝ }
+// c goes on the cache list of its size if that has room. Answers the list's number, 64 where nothing was done.
+pub fn to_cache(a: &mut [u8], r: &mut [u32], c: u64) -> usize
+    requires { ⌜ Has (λ h. Loose h c) (arenaWords (now a)) (now r) ⌝ }
+    ensures { λ k. ⌜ Offered c k (arenaWords (now (a .entry))) (now (r .entry)) (arenaWords (now (a .exit))) (now (r .exit)) ⌝ }
 {
     let z = size_at(a, c);
     if z <= MOST_CACHED {
         let k = sizes::cache_list(z);
         if r[CACHE_COUNTS + k] < CACHE_ROOM {
             push_cache(a, r, k, c);
-            return 0;
+            return k;
         }
     }
-    release_past(a, r, c)
+    CACHE_LISTS
 }
 
 // Fast list k is emptied from its head, each chunk joined.

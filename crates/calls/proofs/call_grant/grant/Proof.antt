@@ -1,5 +1,7 @@
 -- `grant` is the machine's: refused for either buffer, as too large, as unsound, for want of room, or granted. Assumes nothing.
-use mathlib.Core.Path.{refl, sym, _∙_}
+use mathlib.Core.Path.{_≡_, refl, sym, _∙_}
+use mathlib.Core.List.{List}
+use Prim.Native.Nat.{ℕ}
 use native.Mathlib.Omega.{arith}
 use borrow.Author.Tests.{not-true, not-false}
 use Rattle.machine.specs.Calls.{wordsOf}
@@ -10,6 +12,15 @@ use borrow.Author.Needs.{needs}
 use Rattle.calls.proofs.call_grant.grant.Statement.{statement}
 use Rattle.calls.proofs.call_grant.grant.Tie as tie
 
+-- the buffers behind the tests of shape
+came : (d : tie.After-read-words) {q : List ℕ} → q ≡ wordsOf (d .before .before .before .before .before .before .before .before .before .before .before .before .args .control .now) → Came (d .before .before .before .before .before .before .before .before .before .before .before .before .args .arena .now) (d .before .before .before .before .before .before .before .before .before .before .before .before .args .control .now) q
+came d e = record {
+  long = d .before .before .before .before .before .before .before .before .before .if1 .left;
+  allowed = sym (d .before .before .before .before .before .before .before .before .allowed .ensures) ∙ not-false _ (d .before .before .before .before .before .before .before .if2 .left);
+  small = λ i. omega (arith, d .before .before .before .before .before .before .before .before .before .before .slice-known2 .given i);
+  words = e;
+}
+
 returns : tie.Need-returns
 returns c = let s = c .before .before .before in grant-shape _ _ _ (shape-record (s .args .arena .now) (s .args .control .now) (c .if1 .taken))
 
@@ -17,7 +28,9 @@ allowed-requires : tie.Need-allowed-requires
 allowed-requires c κs = search needs
 
 returns-2 : tie.Need-returns-2
-returns-2 c = let s = c .before .before .before .before .before in grant-shape _ _ _ (shape-arena (s .args .arena .now) (s .args .control .now) (c .before .before .if1 .left) (sym (c .before .allowed .ensures) ∙ not-true _ (c .if2 .taken)))
+returns-2 c =
+    let s = c .before .before .before .before .before in
+    grant-shape _ _ _ (shape-arena (s .args .arena .now) (s .args .control .now) (c .before .before .if1 .left) (sym (c .before .allowed .ensures) ∙ not-true _ (c .if2 .taken)))
 
 need-requires : tie.Need-need-requires
 need-requires c κs = search needs
@@ -28,7 +41,12 @@ enum-told c = search needs
 returns-3 : tie.Need-returns-3
 returns-3 c =
     let s = c .before .before .before .before .before .before .before .before in
-    let k : Came (s .args .arena .now) (s .args .control .now) (wordsOf (s .args .control .now)) = record { long = c .before .before .before .before .before .if1 .left; allowed = sym (c .before .before .before .before .allowed .ensures) ∙ not-false _ (c .before .before .before .if2 .left); small = λ i. omega (arith, c .before .before .before .before .before .before .slice-known2 .given i); words = refl } in
+    let k : Came (s .args .arena .now) (s .args .control .now) (wordsOf (s .args .control .now)) = record {
+      long = c .before .before .before .before .before .if1 .left;
+      allowed = sym (c .before .before .before .before .allowed .ensures) ∙ not-false _ (c .before .before .before .if2 .left);
+      small = λ i. omega (arith, c .before .before .before .before .before .before .slice-known2 .given i);
+      words = refl;
+    } in
     grant-large _ _ _ _ _ k (c .before .before .need .ensures) (c .enum-told .given .1)
 
 enum-known-needed : tie.Need-enum-known-needed
@@ -44,10 +62,7 @@ slice-aggregate-audit-words : tie.Need-slice-aggregate-audit-words
 slice-aggregate-audit-words c = search needs
 
 audit-words-requires : tie.Need-audit-words-requires
-audit-words-requires c κs =
-    let s = c .before .before .before .before .before .before .before .before .before .before .before .before .before .before .before in
-    let k : Came (s .args .arena .now) (s .args .control .now) _ = record { long = c .before .before .before .before .before .before .before .before .before .before .before .before .if1 .left; allowed = sym (c .before .before .before .before .before .before .before .before .before .before .before .allowed .ensures) ∙ not-false _ (c .before .before .before .before .before .before .before .before .before .before .if2 .left); small = λ i. omega (arith, c .before .before .before .before .before .before .before .before .before .before .before .before .before .slice-known2 .given i); words = c .before .before .before .read-words .ensures } in
-    (came-arena _ _ _ k, search needs)
+audit-words-requires c κs = let d = c .before .before .before in (came-arena _ _ _ (came d (d .read-words .ensures)), search needs)
 
 is-sound-requires : tie.Need-is-sound-requires
 is-sound-requires c κs = search needs
@@ -60,26 +75,25 @@ same-length-2 c = search needs
 
 returns-4 : tie.Need-returns-4
 returns-4 c =
-    let s = c .before .before .before .before .before .before .before .before .before .before .before .before .before .before .before .before .before .before in
-    let k : Came (s .args .arena .now) (s .args .control .now) _ = record { long = c .before .before .before .before .before .before .before .before .before .before .before .before .before .before .before .if1 .left; allowed = sym (c .before .before .before .before .before .before .before .before .before .before .before .before .before .before .allowed .ensures) ∙ not-false _ (c .before .before .before .before .before .before .before .before .before .before .before .before .before .if2 .left); small = λ i. omega (arith, c .before .before .before .before .before .before .before .before .before .before .before .before .before .before .before .before .slice-known2 .given i); words = c .before .before .before .before .before .before .read-words .ensures } in
-    let z = needed-size (s .args .n) _ _ (c .before .before .before .before .before .before .before .before .before .before .before .before .need .ensures) (c .before .before .before .before .before .before .before .before .before .before .needed .given .1) in
-    grant-refused _ _ _ _ _ _ k z (c .before .before .audit-words .ensures) (sym (c .before .is-sound .ensures) ∙ not-true _ (c .if3 .taken))
+    let d = c .before .before .before .before .before .before in
+    let z = needed-size (d .before .before .before .before .before .before .before .before .before .before .before .before .args .n) _ _ (d .before .before .before .before .before .before .need .ensures) (d .before .before .before .before .needed .given .1) in
+    grant-refused _ _ _ _ _ _ (came d (d .read-words .ensures)) z (c .before .before .audit-words .ensures) (sym (c .before .is-sound .ensures) ∙ not-true _ (c .if3 .taken))
 
-slice-aggregate-grant : tie.Need-slice-aggregate-grant
-slice-aggregate-grant c = search needs
+slice-aggregate-find : tie.Need-slice-aggregate-find
+slice-aggregate-find c = search needs
 
-grant-requires : tie.Need-grant-requires
-grant-requires c κs =
-    let s = c .before .before .before .before .before .before .before .before .before .before .before .before .before .before .before .before .before .before .before .before in
-    let k : Came (s .args .arena .now) (s .args .control .now) _ = record { long = c .before .before .before .before .before .before .before .before .before .before .before .before .before .before .before .before .before .if1 .left; allowed = sym (c .before .before .before .before .before .before .before .before .before .before .before .before .before .before .before .before .allowed .ensures) ∙ not-false _ (c .before .before .before .before .before .before .before .before .before .before .before .before .before .before .before .if2 .left); small = λ i. omega (arith, c .before .before .before .before .before .before .before .before .before .before .before .before .before .before .before .before .before .before .slice-known2 .given i); words = c .before .before .before .before .before .before .before .before .read-words .ensures } in
-    let z = needed-size (s .args .n) _ _ (c .before .before .before .before .before .before .before .before .before .before .before .before .before .before .need .ensures) (c .before .before .before .before .before .before .before .before .before .before .before .before .needed .given .1) in
-    (z .whole, z .least, z .most, came-has _ _ _ _ k (c .before .before .before .before .audit-words .ensures) (sym (c .before .before .before .is-sound .ensures) ∙ not-false _ (c .before .before .if3 .left)))
-
-slice-aggregate-write-words : tie.Need-slice-aggregate-write-words
-slice-aggregate-write-words c = search needs
-
-write-words-requires : tie.Need-write-words-requires
-write-words-requires c κs = search needs
+find-requires : tie.Need-find-requires
+find-requires c κs =
+    let d = c .before .before .before .before .before .before .before .before .before in
+    let k = came d (d .read-words .ensures) in
+    let z = needed-size (d .before .before .before .before .before .before .before .before .before .before .before .before .args .n) _ _ (d .before .before .before .before .before .before .need .ensures) (d .before .before .before .before .needed .given .1) in (
+      z .whole,
+      z .least,
+      z .most,
+      came-has _ _ _ _ k (c .before .before .before .before .before .audit-words .ensures) (sym (c .before .before .before .before .is-sound .ensures) ∙ not-false _ (c .before .before .before .if3 .left)),
+      k .long,
+      k .words,
+    )
 
 enum-told-2 : tie.Need-enum-told-2
 enum-told-2 c = search needs
@@ -92,22 +106,24 @@ same-length-4 c = search needs
 
 returns-5 : tie.Need-returns-5
 returns-5 c =
-    let s = c .before .before .before .before .before .before .before .before .before .before .before .before .before .before .before .before .before .before .before .before .before .before .before .before .before .before .before .before .before .before .before in
-    let k : Came (s .args .arena .now) (s .args .control .now) _ = record { long = c .before .before .before .before .before .before .before .before .before .before .before .before .before .before .before .before .before .before .before .before .before .before .before .before .before .before .before .before .if1 .left; allowed = sym (c .before .before .before .before .before .before .before .before .before .before .before .before .before .before .before .before .before .before .before .before .before .before .before .before .before .before .before .allowed .ensures) ∙ not-false _ (c .before .before .before .before .before .before .before .before .before .before .before .before .before .before .before .before .before .before .before .before .before .before .before .before .before .before .if2 .left); small = λ i. omega (arith, c .before .before .before .before .before .before .before .before .before .before .before .before .before .before .before .before .before .before .before .before .before .before .before .before .before .before .before .before .before .slice-known2 .given i); words = c .before .before .before .before .before .before .before .before .before .before .before .before .before .before .before .before .before .before .before .read-words .ensures } in
-    let z = needed-size (s .args .n) _ _ (c .before .before .before .before .before .before .before .before .before .before .before .before .before .before .before .before .before .before .before .before .before .before .before .before .before .need .ensures) (c .before .before .before .before .before .before .before .before .before .before .before .before .before .before .before .before .before .before .before .before .before .before .before .needed .given .1) in
-    grant-through-none _ _ _ _ _ _ _ _ _ k z (c .before .before .before .before .before .before .before .before .before .before .before .before .before .before .before .audit-words .ensures) (sym (c .before .before .before .before .before .before .before .before .before .before .before .before .before .before .is-sound .ensures) ∙ not-false _ (c .before .before .before .before .before .before .before .before .before .before .before .before .before .if3 .left)) (c .before .before .before .before .before .before .before .before .before .before .grant .ensures) _ (c .enum-told2 .given .1)
-    (octets _ _ _ _ k (c .before .before .before .before .before .before .before .before .before .before .grant .kept .0) (λ i. omega (arith, c .before .before .before .before .before .before .before .before .slice-known3 .given i))) (c .before .before .before .before .write-words .ensures)
+    let f = c .before .before .before .before .before .before .before in
+    let d = f .before .before .before .before .before .before .before .before .before .before in
+    let k = came d (d .read-words .ensures) in
+    let z = needed-size (d .before .before .before .before .before .before .before .before .before .before .before .before .args .n) _ _ (d .before .before .before .before .before .before .need .ensures) (d .before .before .before .before .needed .given .1) in
+    grant-through-none _ _ _ _ _ _ _ _ _ k z (f .before .before .before .before .before .before .audit-words .ensures) (sym (f .before .before .before .before .before .is-sound .ensures) ∙ not-false _ (f .before .before .before .before .if3 .left)) (f .find .ensures .0) _
+    (c .enum-told2 .given .1) (octets _ _ _ _ k (f .find .kept .0) (λ i. omega (arith, c .before .before .before .before .before .slice-known3 .given i))) (f .find .ensures .1)
 
 enum-known-g : tie.Need-enum-known-g
 enum-known-g c = search needs
 
 granted-at-requires : tie.Need-granted-at-requires
 granted-at-requires c κs =
-    let s = c .before .before .before .before .before .before .before .before .before .before .before .before .before .before .before .before .before .before .before .before .before .before .before .before .before .before .before .before .before .before .before .before .before in
-    let k : Came (s .args .arena .now) (s .args .control .now) _ = record { long = c .before .before .before .before .before .before .before .before .before .before .before .before .before .before .before .before .before .before .before .before .before .before .before .before .before .before .before .before .before .before .if1 .left; allowed = sym (c .before .before .before .before .before .before .before .before .before .before .before .before .before .before .before .before .before .before .before .before .before .before .before .before .before .before .before .before .before .allowed .ensures) ∙ not-false _ (c .before .before .before .before .before .before .before .before .before .before .before .before .before .before .before .before .before .before .before .before .before .before .before .before .before .before .before .before .if2 .left); small = λ i. omega (arith, c .before .before .before .before .before .before .before .before .before .before .before .before .before .before .before .before .before .before .before .before .before .before .before .before .before .before .before .before .before .before .before .slice-known2 .given i); words = c .before .before .before .before .before .before .before .before .before .before .before .before .before .before .before .before .before .before .before .before .before .read-words .ensures } in
-    let z = needed-size (s .args .n) _ _ (c .before .before .before .before .before .before .before .before .before .before .before .before .before .before .before .before .before .before .before .before .before .before .before .before .before .before .before .need .ensures) (c .before .before .before .before .before .before .before .before .before .before .before .before .before .before .before .before .before .before .before .before .before .before .before .before .before .needed .given .1) in
-    grant-stands _ _ _ _ _ _ _ _ _ k z (c .before .before .before .before .before .before .before .before .before .before .before .before .before .before .before .before .before .audit-words .ensures) (sym (c .before .before .before .before .before .before .before .before .before .before .before .before .before .before .before .before .is-sound .ensures) ∙ not-false _ (c .before .before .before .before .before .before .before .before .before .before .before .before .before .before .before .if3 .left)) (c .before .before .before .before .before .before .before .before .before .before .before .before .grant .ensures) _ (c .before .before .g .given .1)
-    (octets _ _ _ _ k (c .before .before .before .before .before .before .before .before .before .before .before .before .grant .kept .0) (λ i. omega (arith, c .before .before .before .before .before .before .before .before .before .before .slice-known3 .given i)))
+    let f = c .before .before .before .before .before .before .before .before .before in
+    let d = f .before .before .before .before .before .before .before .before .before .before in
+    let k = came d (d .read-words .ensures) in
+    let z = needed-size (d .before .before .before .before .before .before .before .before .before .before .before .before .args .n) _ _ (d .before .before .before .before .before .before .need .ensures) (d .before .before .before .before .needed .given .1) in
+    grant-stands _ _ _ _ _ _ _ _ _ k z (f .before .before .before .before .before .before .audit-words .ensures) (sym (f .before .before .before .before .before .is-sound .ensures) ∙ not-false _ (f .before .before .before .before .if3 .left)) (f .find .ensures .0) _
+    (c .before .before .g .given .1) (octets _ _ _ _ k (f .find .kept .0) (λ i. omega (arith, c .before .before .before .before .before .before .before .slice-known3 .given i)))
 
 same-length-5 : tie.Need-same-length-5
 same-length-5 c = search needs
@@ -117,11 +133,12 @@ same-length-6 c = search needs
 
 returns-6 : tie.Need-returns-6
 returns-6 c =
-    let s = c .before .before .before .before .before .before .before .before .before .before .before .before .before .before .before .before .before .before .before .before .before .before .before .before .before .before .before .before .before .before .before .before .before .before in
-    let k : Came (s .args .arena .now) (s .args .control .now) _ = record { long = c .before .before .before .before .before .before .before .before .before .before .before .before .before .before .before .before .before .before .before .before .before .before .before .before .before .before .before .before .before .before .before .if1 .left; allowed = sym (c .before .before .before .before .before .before .before .before .before .before .before .before .before .before .before .before .before .before .before .before .before .before .before .before .before .before .before .before .before .before .allowed .ensures) ∙ not-false _ (c .before .before .before .before .before .before .before .before .before .before .before .before .before .before .before .before .before .before .before .before .before .before .before .before .before .before .before .before .before .if2 .left); small = λ i. omega (arith, c .before .before .before .before .before .before .before .before .before .before .before .before .before .before .before .before .before .before .before .before .before .before .before .before .before .before .before .before .before .before .before .before .slice-known2 .given i); words = c .before .before .before .before .before .before .before .before .before .before .before .before .before .before .before .before .before .before .before .before .before .before .read-words .ensures } in
-    let z = needed-size (s .args .n) _ _ (c .before .before .before .before .before .before .before .before .before .before .before .before .before .before .before .before .before .before .before .before .before .before .before .before .before .before .before .before .need .ensures) (c .before .before .before .before .before .before .before .before .before .before .before .before .before .before .before .before .before .before .before .before .before .before .before .before .before .before .needed .given .1) in
-    grant-through-at _ _ _ _ _ _ _ _ _ k z (c .before .before .before .before .before .before .before .before .before .before .before .before .before .before .before .before .before .before .audit-words .ensures) (sym (c .before .before .before .before .before .before .before .before .before .before .before .before .before .before .before .before .before .is-sound .ensures) ∙ not-false _ (c .before .before .before .before .before .before .before .before .before .before .before .before .before .before .before .before .if3 .left)) (c .before .before .before .before .before .before .before .before .before .before .before .before .before .grant .ensures) _ (c .before .before .before .g .given .1) _ _
-    (octets _ _ _ _ k (c .before .before .before .before .before .before .before .before .before .before .before .before .before .grant .kept .0) (λ i. omega (arith, c .before .before .before .before .before .before .before .before .before .before .before .slice-known3 .given i))) (c .before .before .before .before .before .before .before .write-words .ensures) (c .granted-at .ensures)
+    let f = c .before .before .before .before .before .before .before .before .before .before in
+    let d = f .before .before .before .before .before .before .before .before .before .before in
+    let k = came d (d .read-words .ensures) in
+    let z = needed-size (d .before .before .before .before .before .before .before .before .before .before .before .before .args .n) _ _ (d .before .before .before .before .before .before .need .ensures) (d .before .before .before .before .needed .given .1) in
+    grant-through-at _ _ _ _ _ _ _ _ _ k z (f .before .before .before .before .before .before .audit-words .ensures) (sym (f .before .before .before .before .before .is-sound .ensures) ∙ not-false _ (f .before .before .before .before .if3 .left)) (f .find .ensures .0) _
+    (c .before .before .before .g .given .1) _ _ (octets _ _ _ _ k (f .find .kept .0) (λ i. omega (arith, c .before .before .before .before .before .before .before .before .slice-known3 .given i))) (f .find .ensures .1) (c .granted-at .ensures)
 
 pub grant-spec : {M : Type 1} → statement M
 grant-spec =
@@ -142,10 +159,8 @@ grant-spec =
     same-length
     same-length-2
     returns-4
-    slice-aggregate-grant
-    grant-requires
-    slice-aggregate-write-words
-    write-words-requires
+    slice-aggregate-find
+    find-requires
     enum-told-2
     same-length-3
     same-length-4
