@@ -117,9 +117,9 @@
  *
  * The check walks over all chunks, so a call takes time in proportion to
  * their number and to the arena's length. Give a call of grant, release, settle
- * or audit 24,576 bytes of stack: the most that was measured is 22,781, over
- * 3,000 random heaps, of which 20,992 are marks, one for each 16 bytes of an
- * arena in three sizes of array, and 1,572 the record's words. heap_open needs
+ * or audit HEAP_STACK_BYTES of stack. The most that was measured is 21,933, over
+ * 600 random heaps, of which 20,000 are marks, one for each 16 bytes of an
+ * arena in four sizes of array, and 1,572 the record's words. heap_open needs
  * no marks; the most measured is 584. No call is recursive, none takes memory
  * from elsewhere, and none calls back.
  *
@@ -137,6 +137,9 @@ extern "C" {
 
 /* The record's size in bytes; no other is accepted. */
 #define HEAP_RECORD_BYTES 1572
+
+/* The stack to give a call. */
+#define HEAP_STACK_BYTES 24576
 
 /* Allowed arena lengths: multiples of the step from the least to the most. */
 #define HEAP_ARENA_MIN 32

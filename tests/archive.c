@@ -7,8 +7,8 @@
  *
  * Seeds are fixed: a run is the same everywhere. The argument, a number, makes
  * it that many times as long, with further seeds. This file has the order of
- * the groups; figures.c, shapes.c and heaps.c have the groups, pair.c has one
- * call on both programs, holders.c the holders of blocks and demand 3.
+ * the groups; figures.c, shapes.c, heaps.c and stack.c have the groups, pair.c
+ * has one call on both programs, holders.c the holders of blocks and demand 3.
  */
 #include "groups.h"
 #include "pair.h"
@@ -86,6 +86,7 @@ int main(int argc, char **argv)
                  500 * times);
     overruns(400 * times);
     guards(120 * times);
+    stack_taken(600 * times);
     the_run();
     return finish();
 }

@@ -39,4 +39,7 @@ void flawed_heaps(uint32_t rounds);
 void overruns(uint32_t rounds);
 void guards(uint32_t rounds);
 
+/* stack.c */
+void stack_taken(uint32_t rounds);
+
 #endif

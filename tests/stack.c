@@ -1,0 +1,86 @@
+/*
+ * How much stack a call takes: it runs on a stack of its own that was filled
+ * before, and what is no longer filled was used. Random heaps, sound and
+ * damaged, of all lengths; the figure in include/heap.h is held against it.
+ */
+#include "groups.h"
+
+#include <string.h>
+
+#include "heap.h"
+
+#define PAINT 0xa5
+
+/* Far more than a call may take, so that one that takes more is seen. */
+static _Alignas(16) uint8_t stack[4 * HEAP_STACK_BYTES];
+
+static struct {
+    struct lent *heap;
+    enum call call;
+    uint64_t number;
+} now;
+
+static void the_call(void)
+{
+    if (now.call == AUDIT)
+        audit_ours(now.heap);
+    else
+        call_ours(now.heap, now.call, now.number);
+}
+
+/* x86-64: the stack pointer is kept in a register that the callee keeps. */
+static void on_the_stack(void (*function)(void))
+{
+    __asm__ volatile("movq %%rsp, %%rbx\n\t"
+                     "movq %0, %%rsp\n\t"
+                     "call *%1\n\t"
+                     "movq %%rbx, %%rsp"
+                     :
+                     : "r"(stack + sizeof stack), "r"(function)
+                     : "rax", "rbx", "rcx", "rdx", "rsi", "rdi", "r8", "r9",
+                       "r10", "r11", "xmm0", "xmm1", "xmm2", "xmm3", "xmm4",
+                       "xmm5", "xmm6", "xmm7", "xmm8", "xmm9", "xmm10",
+                       "xmm11", "xmm12", "xmm13", "xmm14", "xmm15", "memory",
+                       "cc");
+}
+
+static uint32_t taken(struct lent *heap, enum call call, uint64_t number)
+{
+    size_t unused = 0;
+
+    now.heap = heap;
+    now.call = call;
+    now.number = number;
+    memset(stack, PAINT, sizeof stack);
+    on_the_stack(the_call);
+    while (unused < sizeof stack && stack[unused] == PAINT)
+        unused++;
+    return (uint32_t)(sizeof stack - unused);
+}
+
+void stack_taken(uint32_t rounds)
+{
+    uint32_t most[AUDIT + 1] = { 0 };
+
+    group("no call takes more stack than heap.h says");
+    for (uint64_t i = 1; i <= rounds && !group_failed(); i++) {
+        struct random r = { (9 << 20) + i };
+        struct pair p = pair_new(i, r, random_length(&r, 262144));
+        random_heap(&p.r, p.ours.arena, (uint32_t)p.ours.length,
+                    p.ours.record);
+        if (i % 4 == 0)
+            damage_field(&p.r, p.ours.arena, (uint32_t)p.ours.length,
+                         p.ours.record);
+        for (unsigned call = AUDIT + 1; call-- > OPEN;) {
+            uint64_t number = random_below(&p.r, (uint32_t)p.ours.length);
+            uint32_t bytes = taken(&p.ours, call, number);
+            most[call] = bytes > most[call] ? bytes : most[call];
+            CHECK(bytes <= HEAP_STACK_BYTES,
+                  "seed %llu: %s took %u bytes", (unsigned long long)i,
+                  call_name[call], bytes);
+        }
+        pair_free(&p);
+    }
+    for (unsigned call = OPEN; call <= AUDIT; call++)
+        remark(", %s %u", call_name[call], most[call]);
+}
