@@ -1,11 +1,12 @@
 // Little-endian numbers in a byte slice: one of 8 or of 4 bytes, the arena as words of 8 bytes, the record as 393 words of 4.
-// Each read and each write is one load or one store in machine code. Assumes nothing.
+// In machine code a write is one store, and a read one load where the whole number is used. Assumes nothing.
 ghost use mathlib.Core.Path.{_≡_};
 ghost use Prim.Native.Nat.{_+_, _*_, _/_, _%_, _≤_};
 ghost use lib.ListN.{length, getD, set};
 ghost use Rattle.le.specs.Number.{number, put, words, bytes};
 ghost use Rattle.le.specs.Arena.{arenaWords};
 
+// One sum, not nested: so the compiler loads 4 bytes at once also where only some bits of the number are used.
 fn join4(b0: u8, b1: u8, b2: u8, b3: u8) -> u32
     ensures { λ r. ⌜ r ≡ b0 + 256 * (b1 + 256 * (b2 + 256 * b3)) ⌝ }
 {
