@@ -79,16 +79,16 @@ look-is-dead w r mem e = go (sound? (auditOf w r)) (liveMem? w r mem) e
     go false t e = absurd (let z : _≡_ {A = ℕ} 0 1 = cc in omega arith)
 
 -- ---- the audit's answer in a look
-abbrev pub faultIn : Look → Audited
-faultIn (Faulty f) = f
-faultIn NotLive = A.Sound
-faultIn Live = A.Sound
+abbrev pub faultOf : Look → Audited
+faultOf (Faulty f) = f
+faultOf NotLive = A.Sound
+faultOf Live = A.Sound
 
-pub fault-in-look : (w r : List ℕ) (mem : ℕ) (l : Look) → l ≡ lookAt w r mem → faultIn l ≡ auditOf w r
+pub fault-of-look : (w r : List ℕ) (mem : ℕ) (l : Look) → l ≡ lookAt w r mem → faultOf l ≡ auditOf w r
 unfolding lookAt
-fault-in-look w r mem l e = ap faultIn e ∙ go (sound? (auditOf w r)) (liveMem? w r mem) (is-sound (auditOf w r))
+fault-of-look w r mem l e = ap faultOf e ∙ go (sound? (auditOf w r)) (liveMem? w r mem) (is-sound (auditOf w r))
   where
-    go : (s t : Bool) → (s ≡ true → auditOf w r ≡ A.Sound) → faultIn (elim s [ true ↦ elim t [ true ↦ Live | false ↦ NotLive ] | false ↦ Faulty (auditOf w r) ]) ≡ auditOf w r
+    go : (s t : Bool) → (s ≡ true → auditOf w r ≡ A.Sound) → faultOf (elim s [ true ↦ elim t [ true ↦ Live | false ↦ NotLive ] | false ↦ Faulty (auditOf w r) ]) ≡ auditOf w r
     go true true e = sym (e refl)
     go true false e = sym (e refl)
     go false t e = refl

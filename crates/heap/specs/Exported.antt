@@ -12,9 +12,5 @@ pub data Back : Type 0 where
 abbrev pub numbered : After → Back
 numbered (after a r x) = back a r (answerNumbers x)
 
--- a refusal's three numbers
-abbrev pub refusal : ℕ → HeapAnswer
-refusal n = record { no = n; mem = 0; usable = 0 }
-
 pub back-is : (a r : List ℕ) (x : Answer) (n : HeapAnswer) {y : After} → after a r x ≡ y → n ≡ answerNumbers x → back a r n ≡ numbered y
 back-is a r x n e q = ap (back a r) q ∙ ap numbered e

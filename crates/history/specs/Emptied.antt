@@ -92,11 +92,6 @@ begin-opened a r L =
     let o = opened-ends n (arenaWords a) (L .even) (L .least) (L .most) (omega (arith, length-arenaWords a, L .even)) in
     ap (λ (x : C.After). heapAt (settled [] x)) (open-lent a r L) ∙ written-read (opened n) (o .0) (apply (size 0 n 1 ∷ []) (arenaWords a)) (o .1) (omega arith)
 
--- that is the record that open writes
-pub begin-record : (a r : List ℕ) → Lent a r → recordIn (begin a r) ≡ bytes 4 (recordOf (opened (length a)))
-unfolding begin
-begin-record a r L = ap (λ (x : C.After). recordIn (settled [] x)) (open-lent a r L)
-
 begin-blocks : (a r : List ℕ) → Lent a r → blocksIn (begin a r) ≡ []
 unfolding begin
 begin-blocks a r L = ap (λ (x : C.After). blocksIn (settled [] x)) (open-lent a r L)

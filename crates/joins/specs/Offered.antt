@@ -3,16 +3,14 @@ use mathlib.Core.Path.{_≡_}
 use mathlib.Core.List.{List, _∷_}
 use Prim.Native.Nat.{ℕ, _≤_, _<_}
 use Rattle.sizes.specs.Limits.{cacheLists}
-use Rattle.sizes.specs.Sizes.{cacheOf}
-use Rattle.machine.specs.Heap.{Heap, stack, sizeOf, withStack}
+use Rattle.machine.specs.Heap.{Heap, stack, withStack}
 use Rattle.machine.specs.Writes.{heapOf}
 use Rattle.machine.specs.Release.{releasePast, release}
 use Rattle.sound.specs.Relation.{Loose}
 use Rattle.fields.specs.Follow.{Ok, Does}
 
--- cache list k is c's own and has c first now: all that release does
+-- cache list k has c first now: all that release does
 pub record OnCache (c k : ℕ) (w r v q : List ℕ) : Type 0 where
-  pub own : (h : Heap) → Ok h w r → Loose h c → k ≡ cacheOf (sizeOf h c)
   pub heap : (h : Heap) → Ok h w r → Loose h c → heapOf (release c h) ≡ withStack k (c ∷ stack h k) h
   pub does : Does ℕ (λ h. Loose h c) (release c) w r 0 v q
 

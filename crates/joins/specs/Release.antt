@@ -96,7 +96,6 @@ module _ (w r : List ℕ) (c z : ℕ) (ez : z ≡ sizeAt w c) where
     pub offered-cached : {v q : List ℕ} → n < 7 → Does (Unit {0}) (λ h. Loose h c × (length (stack h k) < 7)) (push k c) w r tt v q → Offered c k w r v q
     offered-cached m D = record {
       cached = λ b. record {
-        own = λ h o lo. ek .0 ∙ ap cacheOf (sym (size-is h w r c z o lo ez));
         heap = λ h o lo. ap heapOf (cached-is h w r c z o lo ez k n ek en l m);
         does = record {
           does = λ h o lo.

@@ -8,8 +8,8 @@ use lib.ListN.{getD}
 use Rattle.sizes.specs.Layout.{sizeWord, topWord}
 use Rattle.machine.specs.Lists.{cnt}
 use Rattle.machine.specs.Heap.{Tile, tile, Heap, endFrom, since, upTo, edit, topOf, topSize, starts, sizeOf, pOf, hdP, recordOf}
-use Rattle.machine.specs.Writes.{size, note, put}
-use Rattle.machine.specs.Primitives.{markT, setP, clearP}
+use Rattle.machine.specs.Writes.{size, put}
+use Rattle.machine.specs.Primitives.{markT, setP}
 use Rattle.machine.specs.View.{sizeAt}
 use Rattle.sound.specs.Relation.{fits, tilesAt, Mem, Shape}
 use Rattle.sound.specs.Tiles.{fits-split, end-append, place, tiles-split}
@@ -46,9 +46,6 @@ module _ (h : Heap) (s : Shape h) where
     pub top-size : sizeAt w (topOf h) ≡ topSize h
     top-size = omega (arith, top-word .0, top-word .1)
 
-    pub top-p : getD w (sizeWord (topOf h)) 0 % 2 ≡ 1
-    top-p = omega (arith, top-word .0, top-word .1)
-
   -- ---- a mark of a chunk keeps where the tiles end
   place-end : (a z : List Tile) (t : Tile) (b k : ℕ) → h .tiles ≡ a ++ t ∷ z → topOf (edit (endFrom 0 a) (markT b k) h) ≡ topOf h
   place-end a z t b k e =
@@ -70,11 +67,4 @@ module _ (h : Heap) (w r : List ℕ) (o : Ok h w r) (n : ℕ) (i : 1 ≤ cnt n (
     says = refl;
     bytes = e ∙ ap (λ (z : ℕ). put (size n z 1) w) (chunk-says h (o .shape) w (o .mem) n i .size);
     rec = o .rec ∙ sym (mark-record h (o .shape) n 1 0 i);
-  }
-
-  pub clear-p-gave : (z : ℕ) (v : List ℕ) → v ≡ put (note n z) (put (size n (sizeAt w n) 0) w) → Gave (Unit {0}) (clearP n z h) tt w v r
-  clear-p-gave z v e = record {
-    says = refl;
-    bytes = e ∙ ap (λ (y : ℕ). put (note n z) (put (size n y 0) w)) (chunk-says h (o .shape) w (o .mem) n i .size);
-    rec = o .rec ∙ sym (mark-record h (o .shape) n 0 z i);
   }

@@ -12,14 +12,13 @@ use Rattle.machine.specs.Lists.{both, cnt}
 use Rattle.machine.specs.Count.{ind-same, ind-other}
 use Rattle.machine.specs.Heap.{Heap, starts, sizeOf, total, live?}
 use Rattle.machine.specs.Writes.{apply, Ran, heapOf, writes, ran}
-use Rattle.machine.specs.Release.{join, release, consolidate, settle}
+use Rattle.machine.specs.Release.{release, consolidate, settle}
 use Rattle.machine.specs.Grant.{grant}
 use Rattle.sound.specs.Relation.{Mem, Shape, Loose, Good}
 use Rattle.sound.specs.Tiles.{starts-once}
 use Rattle.sound.specs.Edits.{fits-tiles}
 use Rattle.sound.specs.Spares.{Spares, spared}
 use Rattle.sound.specs.Moves.{answerOf, nil, one, any, Moved, moved-keeps}
-use Rattle.sound.specs.JoinMoves.{join-moved}
 use Rattle.sound.specs.Leaves.{Leaves, gave, Still, Cached, Found}
 use Rattle.sound.specs.Release.{both-true, release-leaves}
 use Rattle.sound.specs.Settle.{Consolidated, consolidate-leaves, Settled, settle-leaves}
@@ -105,15 +104,9 @@ found-gives b h w (ran g ws Nothing) s l = record {
   only = λ x e lo. omega (arith, l .moved .count x);
 }
 
--- ---- join, release, settle, grant
-pub join-goes : (h : Heap) (w : List ℕ) (c : ℕ) → Good h → Mem h w → Loose h c → Goes c h (join c h)
-join-goes h w c g m lo = moved-goes c h (join c h) (g .shape) (join-moved h w c g m lo)
-
+-- ---- release, settle, grant
 pub release-goes : (h : Heap) (w : List ℕ) (c : ℕ) → Good h → Mem h w → Loose h c → Goes c h (release c h)
 release-goes h w c g m lo = moved-goes c h (release c h) (g .shape) (release-leaves h w c g m lo .moved)
-
-pub consolidate-stays : (h : Heap) (w : List ℕ) → Good h → Mem h w → Stays h (consolidate h)
-consolidate-stays h w g m = moved-stays h (consolidate h) (consolidate-leaves h w g m .moved)
 
 pub settle-stays : (h : Heap) (w : List ℕ) → Good h → Mem h w → Stays h (settle h)
 settle-stays h w g m = moved-stays h (settle h) (settle-leaves h w g m .moved)
