@@ -1,16 +1,13 @@
--- A step that changed one cache list: which of the record's words changed, and what the record's bytes are when these alone are written. Assumes nothing.
+-- A step that changed one cache list: which of the record's words changed. Assumes nothing.
 use mathlib.Core.Path.{_≡_, refl, sym, ap, _∙_, subst}
 use mathlib.Core.Bool.{Bool, true, false}
 use mathlib.Core.List.{List, [], _∷_}
-use Prim.Native.Nat.{ℕ, _*_, _^_, _≤_, _<_}
+use Prim.Native.Nat.{ℕ, _≤_, _<_}
 use native.Mathlib.Omega.{arith}
 use lib.Dec.{leb}
 use lib.ListN.{length, getD, set, length-set}
 use lib.Seq.{getD-set-same}
 use borrow.Author.Tests.{leb-true}
-use Rattle.le.specs.Number.{put, bytes}
-use Rattle.le.specs.NumberLaws.{length-put}
-use Rattle.le.specs.WordsLaws.{words-put, bytes-words}
 use Rattle.sizes.specs.Limits.{none32, mostCached}
 use Rattle.sizes.specs.Layout.{cacheHead, cacheCount}
 use Rattle.sizes.specs.Sizes.{cacheOf}
@@ -24,13 +21,10 @@ use Rattle.machine.specs.Calls.{wordsOf}
 use Rattle.machine.specs.declared.{Got.Got, Got.the-variants.At}
 use Rattle.sound.specs.Relation.{Shape, Loose, Good}
 use Rattle.sound.specs.RecordOf.{record-cacheHead, record-cacheCount, record-withCache}
+use Rattle.cached.specs.CacheOnly.{CacheOnly}
 use Rattle.fields.specs.Follow.{Has, answer, Does}
 use Rattle.fields.specs.FollowLaws.{gave-by, gave-giving, got-absurd}
 use Rattle.joins.specs.Offered.{Offered}
-
--- the words p are the words q but for head and count of cache list k
-abbrev pub CacheOnly : ℕ → List ℕ → List ℕ → Type 0
-CacheOnly k q p = p ≡ set (set q (cacheHead k) (getD p (cacheHead k) 0)) (cacheCount k) (getD p (cacheCount k) 0)
 
 -- the record's words when cache list k became l
 pub cache-only : (h : Heap) (k : ℕ) (l q p : List ℕ) → Shape h → k < 64 → q ≡ recordOf h → p ≡ recordOf (withStack k l h) → CacheOnly k q p
@@ -45,20 +39,6 @@ cache-only h k l q p s hk eq ep =
     ∙ ap (λ (r : List ℕ). set (set r (cacheHead k) (hd none32 l)) (cacheCount k) (length l)) (sym eq)
     ∙ ap (λ (x : ℕ). set (set q (cacheHead k) x) (cacheCount k) (length l)) (sym head)
     ∙ ap (λ (x : ℕ). set (set q (cacheHead k) (getD p (cacheHead k) 0)) (cacheCount k) x) (sym count)
-
--- the record's bytes when these two words were written: r before, v after
-pub cache-only-bytes : (k : ℕ) (r p v : List ℕ) → length r ≡ 1572 → k < 64 → CacheOnly k (wordsOf r) p
-    → getD p (cacheHead k) 0 < 2 ^ 32 → getD p (cacheCount k) 0 < 2 ^ 32 → ((i : ℕ) → getD v i 0 < 256)
-    → v ≡ put 4 (put 4 r (4 * cacheHead k) (getD p (cacheHead k) 0)) (4 * cacheCount k) (getD p (cacheCount k) 0) → v ≡ bytes 4 p
-cache-only-bytes k r p v n hk o x y small e =
-    let u : List ℕ = put 4 r (4 * cacheHead k) (getD p (cacheHead k) 0) in
-    let m : length u ≡ 1572 = length-put 4 r (4 * cacheHead k) (getD p (cacheHead k) 0) ∙ n in
-    let l : length v ≡ 1572 = ap length e ∙ length-put 4 u (4 * cacheCount k) (getD p (cacheCount k) 0) ∙ m in
-    sym (bytes-words 4 393 v l small)
-    ∙ ap (bytes 4) (ap wordsOf e
-    ∙ words-put 4 393 u (cacheCount k) (getD p (cacheCount k) 0) (omega arith) (omega (arith, m)) y
-    ∙ ap (λ (q : List ℕ). set q (cacheCount k) (getD p (cacheCount k) 0)) (words-put 4 393 r (cacheHead k) (getD p (cacheHead k) 0) (omega arith) (omega (arith, n)) x)
-    ∙ sym o)
 
 -- ---- step 1 of grant, where it found a chunk
 step1-found : (b : ℕ) (h : Heap) (c : ℕ) → answer (step1 b h) ≡ At c → (b ≤ mostCached) × (heapOf (step1 b h) ≡ withStack (cacheOf b) (tl (stack h (cacheOf b))) h)

@@ -11,7 +11,7 @@ ghost use Rattle.machine.specs.Calls.{after, wordsOf, grantCall};
 ghost use Rattle.sound.specs.Relation.{Good};
 ghost use Rattle.fields.specs.Follow.{Has, Does};
 ghost use Rattle.calls.specs.Grants.{Stands};
-use crate::cached::put_cache;
+use cached::put_cache;
 use crate::shape::allowed;
 use machine::Answer;
 use machine::Got;

@@ -8,7 +8,7 @@ ghost use Rattle.machine.specs.Release.{release};
 ghost use Rattle.machine.specs.Calls.{after, wordsOf, releaseCall};
 ghost use Rattle.sound.specs.Relation.{Loose, Good};
 ghost use Rattle.fields.specs.Follow.{Has, Does};
-use crate::cached::put_cache;
+use cached::put_cache;
 use crate::shape::allowed;
 use audit::Look;
 use machine::Answer;

@@ -1,7 +1,6 @@
 // The calls: open, grant, release, settle, audit, on arena bytes, control record bytes and a number. Each is the machine's call on the same bytes,
 // refusals included, on any input: none has a `requires`. Assumes nothing.
 mod shape; // shape.rt: the allowed lengths
-mod cached; // cached.rt: a step that changed one cache list only
 mod call_open; // call_open.rt
 mod call_grant; // call_grant.rt
 mod call_release; // call_release.rt

@@ -12,6 +12,5 @@ pub mod Alike
 pub mod Lengths
 pub mod Emptied
 pub mod Theorem
-pub mod Sample
 pub mod Spared
 pub mod Performed

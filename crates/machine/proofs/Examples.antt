@@ -1,22 +1,26 @@
--- The machine computes: worked examples of document 01 and of the open points, each one theorem by computation. Assumes nothing.
+-- The machine computes: worked examples of document 01 and of the open points on the heap, each one theorem by computation. Those on bytes stand in the
+-- crate examples. Assumes nothing.
 use mathlib.Core.Path.{_≡_, refl}
 use mathlib.Core.Bool.{true}
 use mathlib.Core.List.{List, [], _∷_, _++_}
 use Prim.Native.Nat.{ℕ}
 use lib.ListN.{length, getD, replicate}
-use Rattle.le.specs.Number.{number}
+use Rattle.le.specs.Number.{number, numberFrom, words, digits, bytes}
+use Rattle.le.specs.Arena.{arenaWords}
 use Rattle.sizes.specs.Limits.{none64}
+use Rattle.sizes.specs.Sizes.{need}
 use Rattle.machine.specs.Heap.{cache, fast, bin}
 use Rattle.machine.specs.Writes.{apply}
-use Rattle.machine.proofs.Script.{Line, G, R, S, script, scriptBytes, outOf, recordOut, arenaOut, outs, heapAfter, writesAfter, same?}
+use Rattle.machine.specs.Grant.{grant}
+use Rattle.machine.specs.Calls.{granted}
+use Rattle.machine.proofs.Script.{Line, G, R, S, script, outs, heapAfter, writesAfter, arenaAfter, same?}
 
--- document 01's heaplog example, line by line, on bytes: number, mem, usable and top for A 256 and each line after it
+-- document 01's heaplog example behind its A 256, line by line: number, mem, usable and top
 example : List Line
 example = G 24 ∷ G 25 ∷ R 16 ∷ R 16 ∷ G 0 ∷ G 200 ∷ R 48 ∷ R 16 ∷ S ∷ G 200 ∷ []
 
-heaplog-example : same? (outOf (scriptBytes 170 256 example))
-    (0 ∷ 0 ∷ 0 ∷ 0 ∷
-    0 ∷ 16 ∷ 24 ∷ 32 ∷
+heaplog-example : same? (outs (script 256 example))
+    (0 ∷ 16 ∷ 24 ∷ 32 ∷
     0 ∷ 48 ∷ 40 ∷ 80 ∷
     0 ∷ 0 ∷ 0 ∷ 80 ∷
     4 ∷ 0 ∷ 0 ∷ 80 ∷
@@ -26,44 +30,8 @@ heaplog-example : same? (outOf (scriptBytes 170 256 example))
     0 ∷ 0 ∷ 0 ∷ 80 ∷
     0 ∷ 0 ∷ 0 ∷ 0 ∷
     0 ∷ 16 ∷ 200 ∷ 208 ∷ []) ≡ true
-unfolding example scriptBytes
+unfolding script example
 heaplog-example = refl
-
--- after its settle no block is held: the record is that of a newly opened arena, byte for byte, though the arena's bytes are not
-settled-record : same? (recordOut (scriptBytes 170 256 (G 24 ∷ G 25 ∷ R 48 ∷ R 16 ∷ S ∷ []))) (recordOut (scriptBytes 7 256 [])) ≡ true
-unfolding scriptBytes
-settled-record = refl
-
--- arena 32 opens but grants nothing; null is released, the top's mem is not
-least-arena : same? (outOf (scriptBytes 255 32 (G 0 ∷ R 0 ∷ R 16 ∷ S ∷ [])))
-    (0 ∷ 0 ∷ 0 ∷ 0 ∷
-    5 ∷ 0 ∷ 0 ∷ 0 ∷
-    0 ∷ 0 ∷ 0 ∷ 0 ∷
-    4 ∷ 0 ∷ 0 ∷ 0 ∷
-    0 ∷ 0 ∷ 0 ∷ 0 ∷ []) ≡ true
-unfolding scriptBytes
-least-arena = refl
-
--- an arena of 16 bytes is refused with 1, and every later call on it; the record is left with top none, so that its top reads 4,294,967,295
-refused-open : same? (outOf (scriptBytes 9 16 (G 0 ∷ [])))
-    (1 ∷ 0 ∷ 0 ∷ 4294967295 ∷
-    1 ∷ 0 ∷ 0 ∷ 4294967295 ∷ []) ≡ true
-unfolding scriptBytes
-refused-open = refl
-
--- a request above 262,144 is refused with 2, 262,144 itself with 5
-large-requests : same? (outOf (scriptBytes 0 64 (G 262145 ∷ G 262144 ∷ G 18446744073709551615 ∷ [])))
-    (0 ∷ 0 ∷ 0 ∷ 0 ∷
-    2 ∷ 0 ∷ 0 ∷ 0 ∷
-    5 ∷ 0 ∷ 0 ∷ 0 ∷
-    2 ∷ 0 ∷ 0 ∷ 0 ∷ []) ≡ true
-unfolding scriptBytes
-large-requests = refl
-
--- open writes bytes 8 to 15 only
-open-writes : same? (arenaOut (scriptBytes 170 32 [])) (replicate 8 170 ++ (33 ∷ replicate 7 0) ++ replicate 16 170) ≡ true
-unfolding scriptBytes
-open-writes = refl
 
 -- eight live 32-byte chunks released: seven cached, the eighth on fast list 0
 lists-of : (ℕ → List ℕ) → List ℕ → List ℕ
@@ -146,6 +114,6 @@ unfolding script joined
 join-order = refl
 
 -- a refused grant leaves what its steps wrote in the arena: the fast chunk at 224 was joined and binned, so P of the chunk behind it is clear
-refused-joins : number 8 (arenaOut (scriptBytes 0 512 (eight ++ G 400 ∷ []))) 264 ≡ 32
-unfolding scriptBytes eight
+refused-joins : number 8 (arenaAfter (granted (replicate 512 0) (grant (need 400) (heapAfter (script 512 eight))))) 264 ≡ 32
+unfolding script eight number numberFrom words digits bytes arenaWords
 refused-joins = refl

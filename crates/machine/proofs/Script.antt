@@ -1,63 +1,22 @@
--- Scripts of heaplog run on the machine: on bytes, through the calls with every refusal, and on the heap alone, which is quicker. Definitions only.
+-- Scripts of heaplog run on the machine's heap: the steps alone, without the bytes. Definitions only.
 use mathlib.Core.List.{List, [], _∷_, _++_}
 use mathlib.Core.Bool.{Bool, true, false}
 use Prim.Native.Nat.{ℕ, _+_, _-_}
 use lib.Dec.{eqb, leb}
-use lib.ListN.{replicate}
-use Rattle.le.specs.Number.{number, numberFrom, words, digits, bytes}
-use Rattle.le.specs.Arena.{arenaWords}
 use Rattle.sizes.specs.Sizes.{need, usable, cacheOf, fastOf, binOf, largeBin}
 use Rattle.machine.specs.Lists.{both}
 use Rattle.machine.specs.Heap.{Heap, opened, topOf, sizeOf, live?, recordOf}
 use Rattle.machine.specs.Writes.{Write, Ran, ran}
 use Rattle.machine.specs.Release.{absorb, joinNext, putDown, join, releasePast, release, drain, drains, consolidate, emptying, joining, settle}
 use Rattle.machine.specs.Grant.{step1, moveFast, step2, takeLast, moveLasts, step3, step4, split, sortIn, splitLone, keep, turnAt, turn, swept, sweep, step5, carve, step8, step6, step7, step9, pass, again, from4, seek, grant}
-use Rattle.machine.specs.View.{listAt, tilesOf, stacksOf, binsOf}
-use Rattle.machine.specs.Audit.{tileFault, goodFrom, listFault, flagFault, auditOf}
-use Rattle.machine.specs.Calls.{After, after, answerNumbers, auditCall, closedRecord, openCall, grantCall, releaseCall, settleCall}
-use Rattle.machine.specs.declared.{Got.Got, Answer.Answer}
+use Rattle.machine.specs.Calls.{After, after}
+use Rattle.machine.specs.declared.{Got.Got}
 use Rattle.machine.specs.declared.Got.the-variants.{At, Nothing}
 
 pub data Line : Type 0 where
   G : ℕ → Line
   R : ℕ → Line
   S : Line
-
--- ---- on bytes: what each line prints behind its letter, and the bytes left
-pub data Printed : Type 0 where
-  printed : List ℕ → List ℕ → List ℕ → Printed
-
-abbrev pub callOf : Line → List ℕ → List ℕ → After
-callOf (G n) a r = grantCall a r n
-callOf (R m) a r = releaseCall a r m
-callOf S a r = settleCall a r
-
-abbrev pub line : Answer → List ℕ → List ℕ
-line x r = answerNumbers x .no ∷ answerNumbers x .mem ∷ answerNumbers x .usable ∷ number 4 r 4 ∷ []
-
-abbrev pub print : List ℕ → Printed → Printed
-print ns (printed out a r) = printed (ns ++ out) a r
-
-abbrev pub goOn : After → (List ℕ → List ℕ → Printed) → Printed
-goOn (after a r x) f = print (line x r) (f a r)
-
-abbrev pub runBytes : List Line → List ℕ → List ℕ → Printed
-runBytes [] a r = printed [] a r
-runBytes (l ∷ ls) a r = goOn (callOf l a r) (λ b s. runBytes ls b s)
-
--- opened on an arena of n bytes, all equal to x, and a record of bytes x
-unfoldable pub scriptBytes : ℕ → ℕ → List Line → Printed
-unfolding number numberFrom words digits bytes arenaWords need usable cacheOf fastOf binOf largeBin recordOf absorb joinNext putDown join releasePast release drain drains consolidate emptying joining settle step1 moveFast step2 takeLast moveLasts step3 step4 split sortIn splitLone keep turnAt turn swept sweep step5 carve step8 step6 step7 step9 pass again from4 seek grant listAt tilesOf stacksOf binsOf tileFault goodFrom listFault flagFault auditOf auditCall closedRecord openCall grantCall releaseCall settleCall
-scriptBytes x n ls = goOn (openCall (replicate n x) (replicate 1572 x)) (λ b s. runBytes ls b s)
-
-abbrev pub outOf : Printed → List ℕ
-outOf (printed out a r) = out
-
-abbrev pub arenaOut : Printed → List ℕ
-arenaOut (printed out a r) = a
-
-abbrev pub recordOut : Printed → List ℕ
-recordOut (printed out a r) = r
 
 -- ---- on the heap: number, mem, usable and top for each line, the heap and all writes at the end
 pub data Log : Type 0 where
@@ -94,6 +53,10 @@ heapAfter (log out h ws) = h
 
 abbrev pub writesAfter : Log → List Write
 writesAfter (log out h ws) = ws
+
+-- the arena's bytes after a call
+abbrev pub arenaAfter : After → List ℕ
+arenaAfter (after a r x) = a
 
 -- ---- comparison by a test, so that a theorem is one computation
 abbrev pub same? : List ℕ → List ℕ → Bool

@@ -5,10 +5,10 @@ use Prim.Native.Nat.{ℕ, _*_}
 use lib.ListN.{getD}
 use Rattle.le.specs.Number.{put}
 use Rattle.sizes.specs.Layout.{cacheHead, cacheCount}
-use Rattle.calls.specs.CacheList.{cache-only-bytes}
+use Rattle.cached.specs.CacheOnly.{cache-only-bytes}
 use borrow.Author.Needs.{needs}
-use Rattle.calls.proofs.cached.put_cache.Statement.{statement}
-use Rattle.calls.proofs.cached.put_cache.Tie as tie
+use Rattle.cached.proofs.put_cache.Statement.{statement}
+use Rattle.cached.proofs.put_cache.Tie as tie
 
 add-head : tie.Need-add-head
 add-head c = search needs

@@ -1,10 +1,10 @@
-// The record's bytes where a step changed one cache list and no other part of the heap.
+// The record's bytes where a step changed one cache list and no other part of the heap. Assumes nothing.
 ghost use mathlib.Core.Path.{_≡_};
 ghost use Prim.Native.Nat.{_<_};
 ghost use lib.ListN.{length};
 ghost use Rattle.le.specs.Number.{bytes};
 ghost use Rattle.machine.specs.Calls.{wordsOf};
-ghost use Rattle.calls.specs.CacheList.{CacheOnly};
+ghost use Rattle.cached.specs.CacheOnly.{CacheOnly};
 use sizes::CACHE_COUNTS;
 use sizes::CACHE_HEADS;
 
