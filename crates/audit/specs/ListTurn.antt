@@ -19,7 +19,8 @@ use Rattle.machine.specs.declared.ListKind.{ListKind}
 use Rattle.machine.specs.declared.ListKind.the-variants.{Cache, Fast, Bin}
 use Rattle.machine.specs.declared.Audited.{Audited}
 use Rattle.machine.specs.declared.Audited.the-variants as A
-use Rattle.audit_leaves.specs.Leaves.{unmet, markOf, tailWord, Empty, Skipped}
+use Rattle.audit_lists.specs.Listed.{unmet, markOf, tailWord}
+use Rattle.empties.specs.Skips.{Empty, Skipped}
 use Rattle.audit.specs.Tests.{not-sound}
 use Rattle.audit.specs.Lists.{minusAll}
 use Rattle.audit.specs.Spelled.{listsOf, listsOf-length}

@@ -10,7 +10,8 @@ use Rattle.machine.specs.View.{tileAt, tilesOf, view}
 use Rattle.machine.specs.Audit.{tileFault, listFault, flagFault, auditOf}
 use Rattle.machine.specs.declared.Audited.{Audited}
 use Rattle.machine.specs.declared.Audited.the-variants as A
-use Rattle.audit_leaves.specs.Leaves.{unmet, binnedBy}
+use Rattle.audit_leaves.specs.Leaves.{binnedBy}
+use Rattle.audit_lists.specs.Listed.{unmet}
 use Rattle.audit.specs.Tiles.{TilesOk}
 use Rattle.audit.specs.Lists.{minusAll}
 use Rattle.audit.specs.Spelled.{listsOf}

@@ -15,7 +15,7 @@ use Rattle.machine.specs.View.{tileAt, tilesOf, view}
 use Rattle.machine.specs.Audit.{sound?, first, recordFault, tileFault, listFault, flagFault, auditOf}
 use Rattle.machine.specs.declared.Audited.{Audited}
 use Rattle.machine.specs.declared.Audited.the-variants as A
-use Rattle.audit_leaves.specs.Leaves.{unmet}
+use Rattle.audit_lists.specs.Listed.{unmet}
 use Rattle.audit.specs.Tests.{not-sound, first-fault}
 use Rattle.sound.specs.Tiles.{starts-once}
 use Rattle.audit.specs.Tiles.{tiles-sound}
