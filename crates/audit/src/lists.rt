@@ -3,7 +3,8 @@
 ghost use mathlib.Core.Path.{_≡_};
 ghost use lib.ListN.{length};
 ghost use Rattle.le.specs.Arena.{arenaWords};
-ghost use Rattle.audit.specs.Marks.{Bytes, Started, ListsDone};
+ghost use Rattle.audit_walks.specs.Marks.{Bytes, Started};
+ghost use Rattle.audit.specs.Done.{ListsDone};
 use machine::Audited;
 use sizes::NONE64;
 

@@ -6,7 +6,7 @@ ghost use lib.ListN.{length};
 ghost use Rattle.le.specs.Arena.{arenaWords};
 ghost use Rattle.machine.specs.Lists.{both};
 ghost use Rattle.audit_lists.specs.Listed.{unmet};
-ghost use Rattle.audit.specs.Marks.{ArenaBytes, Bytes, Clear};
+ghost use Rattle.audit_walks.specs.Marks.{ArenaBytes, Bytes, Clear};
 ghost use Rattle.audit.specs.Looks.{lookAt};
 use crate::audit_marks;
 use machine::Audited;

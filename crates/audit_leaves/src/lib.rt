@@ -1,5 +1,5 @@
 // The audit's tests of one chunk, each against its definition in the machine: a tile's size word, a flag. And the four words of a chunk.
-// The loops over them stand in the crate audit. Assumes nothing.
+// The loops over them stand in the crates audit_walks and audit. Assumes nothing.
 mod chunk; // chunk.rt: the four words of a chunk
 mod tiles; // tiles.rt: a tile's size word
 mod flags; // flags.rt: a chunk's P and previous size

@@ -1,20 +1,17 @@
 -- What the audit's code leaves in the marks, one for each 16 bytes of arena: 1 at a chunk that no list had yet, 2 at one that a stack has, 3 at one that a
--- bin has; and what each part of it promises. Definitions only.
+-- bin has; and what each walk over the tiles promises. Definitions only.
 use mathlib.Core.Path.{_≡_}
 use mathlib.Core.List.{List}
 use Prim.Native.Nat.{ℕ, _+_, _*_, _/_, _%_, _≤_, _<_}
-use lib.ListN.{length, getD, drop}
-use Rattle.machine.specs.Lists.{cnt, cntAll}
-use Rattle.machine.specs.Heap.{startsFrom, endFrom, live?}
-use Rattle.machine.specs.View.{tileAt, tilesOf, view}
-use Rattle.machine.specs.Audit.{tileFault, listFault, flagFault, auditOf}
+use lib.ListN.{length, getD}
+use Rattle.machine.specs.Lists.{cnt}
+use Rattle.machine.specs.Heap.{startsFrom, endFrom}
+use Rattle.machine.specs.View.{tileAt, tilesOf}
+use Rattle.machine.specs.Audit.{tileFault, flagFault}
 use Rattle.machine.specs.declared.Audited.{Audited}
 use Rattle.machine.specs.declared.Audited.the-variants as A
 use Rattle.audit_leaves.specs.Leaves.{binnedBy}
-use Rattle.audit_lists.specs.Listed.{unmet}
-use Rattle.audit.specs.Tiles.{TilesOk}
-use Rattle.audit.specs.Lists.{minusAll}
-use Rattle.audit.specs.Spelled.{listsOf}
+use Rattle.audit_walks.specs.Tiles.{TilesOk}
 
 -- the allowed lengths of an arena
 pub record ArenaBytes (a : List ℕ) : Type 0 where
@@ -41,10 +38,6 @@ pub record Marks (w m left : List ℕ) (b : ℕ → ℕ) : Type 0 where
 abbrev pub startsOf : List ℕ → List ℕ
 startsOf w = startsFrom 0 (tilesOf w)
 
--- how often the bins that are read have x
-abbrev pub binnedOf : List ℕ → List ℕ → ℕ → ℕ
-binnedOf w r x = cntAll x (drop 74 (listsOf w r))
-
 -- every chunk but the top is marked 1
 pub record Started (w m : List ℕ) : Type 0 where
   pub marks : Marks w m (startsOf w) (λ x. 0)
@@ -53,10 +46,6 @@ pub record Started (w m : List ℕ) : Type 0 where
 pub record TilesDone (w : List ℕ) (top : ℕ) (f : Audited) (m : List ℕ) : Type 0 where
   pub is : f ≡ tileFault w top 0 (tilesOf w)
   pub marks : f ≡ A.Sound → Started w m
-
-pub record ListsDone (w r : List ℕ) (f : Audited) (m : List ℕ) : Type 0 where
-  pub is : f ≡ listFault w r 0 (startsOf w) (listsOf w r)
-  pub marks : f ≡ A.Sound → Marks w m (minusAll (startsOf w) (listsOf w r)) (binnedOf w r)
 
 -- what the flags need: the tiles are good, and end at the top
 pub record Flagging (w : List ℕ) (top : ℕ) : Type 0 where
@@ -72,8 +61,3 @@ Tells w m b = (x : ℕ) → 1 ≤ cnt x (startsOf w) → b x ≡ binAt m x
 
 abbrev pub FlagsDone : List ℕ → List ℕ → Audited → Type 0
 FlagsDone w m f = (b : ℕ → ℕ) → Tells w m b → f ≡ flagFault b (tileAt w (endFrom 0 (tilesOf w))) 0 0 0 (tilesOf w)
-
--- the whole: the machine's answer, and where that is sound, mark 1 exactly at the live blocks
-pub record AuditDone (w r : List ℕ) (f : Audited) (m : List ℕ) : Type 0 where
-  pub is : f ≡ auditOf w r
-  pub live : f ≡ A.Sound → (x : ℕ) → unmet m x ≡ live? (view w r) x

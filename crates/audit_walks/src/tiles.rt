@@ -1,7 +1,7 @@
 // Tiles from 0: size a multiple of 16, at least 32, within what remains, bits 1 to 3 clear; the tile that reaches the end is the record's top.
 // Assumes nothing.
 ghost use Rattle.le.specs.Arena.{arenaWords};
-ghost use Rattle.audit.specs.Marks.{Bytes, Clear, TilesDone};
+ghost use Rattle.audit_walks.specs.Marks.{Bytes, Clear, TilesDone};
 use machine::Audited;
 
 // The first bad tile, or sound; marks 1 at each chunk but the top.

@@ -19,7 +19,7 @@ use Rattle.machine.specs.Audit.{tileOk, tileFault}
 use Rattle.machine.specs.declared.Audited.the-variants as A
 use Rattle.sound.specs.Relation.{fits, tilesAt}
 use Rattle.sound.specs.Tiles.{end-le, none-out}
-use Rattle.audit.specs.Tests.{both-true, sound-if}
+use Rattle.audit_walks.specs.Tests.{both-true, sound-if}
 
 -- where P is set there is no previous size
 abbrev pub noted : List Tile → Type 0
@@ -133,9 +133,12 @@ tiles-complete w o (t ∷ ts) k =
 pub end-no-start : (ts : List Tile) (o : ℕ) → fits ts → cnt (endFrom o ts) (startsFrom o ts) ≡ 0
 end-no-start ts o f = none-out ts o (endFrom o ts) f (inr (omega arith))
 
-pub starts-length : (o : ℕ) (ts : List Tile) → fits ts → o + 32 * length (startsFrom o ts) ≤ endFrom o ts
+starts-length : (o : ℕ) (ts : List Tile) → fits ts → o + 32 * length (startsFrom o ts) ≤ endFrom o ts
 starts-length o [] f = omega arith
 starts-length o (t ∷ ts) f = omega (arith, f .1, starts-length (o + t .size) ts (f .3))
+
+pub few : (w : List ℕ) (ts : List Tile) → TilesOk w 0 ts → length (startsFrom 0 ts) < length w
+few w ts k = omega (arith, starts-length 0 ts (k .fit), k .least, k .top)
 
 -- the size that the words say is the tile's
 pub size-at : (w : List ℕ) (o : ℕ) (ts : List Tile) (x : ℕ) → fits ts → tilesAt w o ts → 1 ≤ cnt x (startsFrom o ts)

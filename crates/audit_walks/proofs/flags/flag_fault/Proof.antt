@@ -9,11 +9,11 @@ use borrow.Author.Needs.{needs}
 use Rattle.le.specs.Arena.{arenaWords}
 use Rattle.machine.specs.View.{sizeAt}
 use Rattle.audit_leaves.specs.Leaves.{binnedBy}
-use Rattle.audit.specs.Marks.{binAt}
-use Rattle.audit.specs.TileTurn.{arena-length}
-use Rattle.audit.specs.FlagTurn.{FlagIn, flags-enter, flags-low, flag-seen, flag-bad, flag-turn, flag-size, flag-last}
-use Rattle.audit.proofs.flags.flag_fault.Statement.{statement}
-use Rattle.audit.proofs.flags.flag_fault.Tie as tie
+use Rattle.audit_walks.specs.Marks.{binAt}
+use Rattle.audit_walks.specs.TileTurn.{arena-length}
+use Rattle.audit_walks.specs.FlagTurn.{FlagIn, flags-enter, flags-low, flag-seen, flag-bad, flag-turn, flag-size, flag-last}
+use Rattle.audit_walks.proofs.flags.flag_fault.Statement.{statement}
+use Rattle.audit_walks.proofs.flags.flag_fault.Tie as tie
 
 abbrev Inv-loop : tie.InvT-loop
 Inv-loop a top m e o₀ u₀ s₀ o u s = FlagIn (arenaWords a) m top o (binnedBy u) s

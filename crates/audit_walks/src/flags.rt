@@ -1,7 +1,7 @@
 // Flags, chunk by chunk: P is clear exactly if the chunk before is in a bin, and the previous size is then its size; no binned chunk touches another or the
 // top; chunk 0 has P set. Assumes nothing.
 ghost use Rattle.le.specs.Arena.{arenaWords};
-ghost use Rattle.audit.specs.Marks.{Bytes, Flagging, FlagsDone};
+ghost use Rattle.audit_walks.specs.Marks.{Bytes, Flagging, FlagsDone};
 use audit_leaves::BINNED;
 use machine::Audited;
 

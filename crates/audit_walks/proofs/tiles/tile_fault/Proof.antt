@@ -7,9 +7,9 @@ use lib.ListN.{length, length-set}
 use borrow.Author.Tests.{not-true, not-false}
 use borrow.Author.Needs.{needs}
 use Rattle.le.specs.Arena.{arenaWords}
-use Rattle.audit.specs.TileTurn.{arena-length, seen, TileIn, tile-big, tile-enter, tile-turn, tile-bad, tile-large, tile-top, tile-sound}
-use Rattle.audit.proofs.tiles.tile_fault.Statement.{statement}
-use Rattle.audit.proofs.tiles.tile_fault.Tie as tie
+use Rattle.audit_walks.specs.TileTurn.{arena-length, seen, TileIn, tile-big, tile-enter, tile-turn, tile-bad, tile-large, tile-top, tile-sound}
+use Rattle.audit_walks.proofs.tiles.tile_fault.Statement.{statement}
+use Rattle.audit_walks.proofs.tiles.tile_fault.Tie as tie
 
 abbrev Inv-loop : tie.InvT-loop
 Inv-loop a top m₀ o₀ room₀ m o room = (length m ≡ length m₀) × (room + o ≡ length a) × TileIn (arenaWords a) m top o

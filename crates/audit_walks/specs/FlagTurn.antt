@@ -14,8 +14,8 @@ use Rattle.machine.specs.View.{sizeAt, lowAt, tileAt, tilesOf}
 use Rattle.machine.specs.Audit.{flagOk, flagFault}
 use Rattle.machine.specs.declared.Audited.the-variants as A
 use Rattle.sound.specs.Tiles.{end-le}
-use Rattle.audit.specs.Tiles.{TilesOk, tiles-later, tile-read}
-use Rattle.audit.specs.Marks.{Flagging, FlagsDone, Tells, binAt, startsOf}
+use Rattle.audit_walks.specs.Tiles.{TilesOk, tiles-later, tile-read}
+use Rattle.audit_walks.specs.Marks.{Flagging, FlagsDone, Tells, binAt, startsOf}
 
 abbrev topTile : List ℕ → Tile
 topTile w = tileAt w (endFrom 0 (tilesOf w))

@@ -20,19 +20,12 @@ use Rattle.machine.specs.Audit.{tileOk, tileFault}
 use Rattle.machine.specs.declared.Audited.the-variants as A
 use Rattle.sound.specs.Tiles.{Start, start, starts-once}
 use Rattle.audit_leaves.specs.Leaves.{wordOk}
-use Rattle.audit.specs.Tests.{not-sound, both-true}
-use Rattle.audit.specs.Tiles.{TilesOk, tiles-sound}
-use Rattle.audit.specs.Spelled.{few}
-use Rattle.audit.specs.Exact.{Arena}
-use Rattle.audit.specs.Marks.{ArenaBytes, Clear, TilesDone, startsOf}
+use Rattle.audit_walks.specs.Tests.{not-sound, both-true}
+use Rattle.audit_walks.specs.Tiles.{TilesOk, tiles-sound, few}
+use Rattle.audit_walks.specs.Marks.{ArenaBytes, Clear, TilesDone, startsOf}
 
 pub arena-length : (a : List ℕ) → ArenaBytes a → 8 * length (arenaWords a) ≡ length a
 arena-length a b = omega (arith, length-arenaWords a, b .even)
-
-pub arena-words : (a : List ℕ) → ArenaBytes a → Arena (arenaWords a)
-arena-words a b =
-    let n = arena-length a b in
-    record { even = rw n (b .even); least = omega (arith, n, b .least); small = omega (arith, n, b .small) }
 
 pub tile-big : (w : List ℕ) (o : ℕ) → tileOk w o ≡ true → 32 ≤ sizeAt w o
 tile-big w o e = leb-true 32 (sizeAt w o) (both-true (ltb (lowAt w o) 2) (leb 32 (sizeAt w o)) e .1)
