@@ -9,6 +9,7 @@ use native.Mathlib.Omega.{arith}
 use lib.ListN.{length, getD, drop, length-append, length-drop, List·getD-append, List·getD-eq-default}
 use lib.Seq.{getD-drop, getD-append-add}
 use borrow.Author.Tests.{lt-ltb, le-ltb}
+use Rattle.le.specs.Arena.{arenaWords}
 use Rattle.sizes.specs.Limits.{none64, none32}
 use Rattle.sizes.specs.Sizes.{binOf}
 use Rattle.sizes.specs.Layout.{cacheHead, fastHead, binFirst, binLast}
@@ -24,7 +25,9 @@ use Rattle.sound.specs.Relation.{Mem, Homes, Good, Sound, chain, links, falls, 
 use Rattle.sound.specs.Tiles.{lt-or-le, fits-split, fits-join, Start, start, tiles-split, tiles-join}
 use Rattle.sound.specs.Homes.{falls-cong}
 use Rattle.sound.specs.RecordOf.{Recorded, record-words, record-ext}
-use Rattle.audit.specs.Tiles.{TilesOk, one-tile, size-at}
+use Rattle.audit_walks.specs.Tiles.{TilesOk, one-tile, size-at}
+use Rattle.audit_walks.specs.Marks.{ArenaBytes}
+use Rattle.audit_walks.specs.TileTurn.{arena-length}
 use Rattle.audit.specs.Flags.{flags-noted}
 use Rattle.audit.specs.Lists.{Suited, Suit, suit-get, suit-all}
 use Rattle.audit.specs.Kinds.{kind-cache, kind-fast, kind-bin, CacheListed, cache-out, cache-in, FastListed, fast-out, fast-in, BinListed, bin-out, bin-in, links-chain, up-hd, up-lst, up-one}
@@ -35,6 +38,11 @@ pub record Arena (w : List ℕ) : Type 0 where
   pub even : (8 * length w) % 16 ≡ 0
   pub least : 32 ≤ 8 * length w
   pub small : 8 * length w ≤ 262144
+
+pub arena-words : (a : List ℕ) → ArenaBytes a → Arena (arenaWords a)
+arena-words a b =
+    let n = arena-length a b in
+    record { even = rw n (b .even); least = omega (arith, n, b .least); small = omega (arith, n, b .small) }
 
 -- ---- the lists by kind and number
 module _ (h : Heap) (stacked : length (h .stacks) ≡ 74) where

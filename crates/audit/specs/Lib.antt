@@ -1,15 +1,11 @@
-pub mod Tests
-pub mod Tiles
 pub mod Lists
 pub mod Flags
 pub mod Kinds
 pub mod Spelled
 pub mod Exact
 pub mod Frame
-pub mod Marks
+pub mod Done
 pub mod MarkLaws
-pub mod TileTurn
 pub mod ListTurn
-pub mod FlagTurn
 pub mod Whole
 pub mod Looks

@@ -11,9 +11,9 @@ use Rattle.machine.specs.View.{view}
 use Rattle.machine.specs.Audit.{sound?, auditOf}
 use Rattle.machine.specs.declared.Audited.{Audited}
 use Rattle.machine.specs.declared.Audited.the-variants as A
-use Rattle.audit_leaves.specs.Leaves.{unmet}
-use Rattle.audit.specs.Tests.{is-sound}
-use Rattle.audit.specs.Marks.{AuditDone}
+use Rattle.audit_lists.specs.Listed.{unmet}
+use Rattle.audit_walks.specs.Tests.{is-sound}
+use Rattle.audit.specs.Done.{AuditDone}
 use Rattle.audit.specs.declared.look.Look.{Look}
 use Rattle.audit.specs.declared.look.Look.the-variants.{Faulty, NotLive, Live}
 

@@ -15,10 +15,10 @@ use Rattle.machine.specs.Lists.{both, cnt, ind, has?, without}
 use Rattle.machine.specs.Count.{eq?, ind-same, ind-other, without-cnt}
 use Rattle.machine.specs.declared.ListKind.{ListKind}
 use Rattle.machine.specs.declared.ListKind.the-variants.{Cache, Fast, Bin}
-use Rattle.audit_leaves.specs.Leaves.{unmet, markOf}
+use Rattle.audit_lists.specs.Listed.{unmet, markOf}
 use Rattle.sound.specs.Tiles.{zero-or, lt-or-le}
-use Rattle.audit.specs.Tests.{both-true}
-use Rattle.audit.specs.Marks.{Marks, binAt}
+use Rattle.audit_walks.specs.Tests.{both-true}
+use Rattle.audit_walks.specs.Marks.{Marks, binAt}
 
 -- the chunks that go to bins
 abbrev pub binCnt : ListKind → ℕ → List ℕ → ℕ

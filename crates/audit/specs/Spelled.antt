@@ -12,14 +12,14 @@ use borrow.Author.Tests.{eqb-true, eq-eqb}
 use Rattle.sizes.specs.Layout.{lengthWord, topWord, remainderWord}
 use Rattle.machine.specs.Lists.{cnt, cntAll, tabulate}
 use Rattle.machine.specs.Count.{pigeons}
-use Rattle.machine.specs.Heap.{Tile, Heap, starts, startsFrom, topOf, topSize, total, binned, bin}
+use Rattle.machine.specs.Heap.{Heap, starts, topOf, topSize, total, binned, bin}
 use Rattle.machine.specs.View.{lowAt, tileAt, tilesFrom, tilesOf, listAt, stacksOf, binsOf, view}
 use Rattle.machine.specs.Audit.{recordFault, tileFault, listFault, lists, faultIn, auditOf}
 use Rattle.machine.specs.declared.Audited.the-variants as A
 use Rattle.sound.specs.Relation.{all, flags}
 use Rattle.sound.specs.Tiles.{Start, start, starts-once}
-use Rattle.audit.specs.Tests.{sound-if, first-sound}
-use Rattle.audit.specs.Tiles.{TilesOk, tiles-sound, tiles-read, tiles-complete, starts-length, end-no-start}
+use Rattle.audit_walks.specs.Tests.{sound-if, first-sound}
+use Rattle.audit_walks.specs.Tiles.{TilesOk, tiles-sound, tiles-read, tiles-complete, few, end-no-start}
 use Rattle.audit.specs.Lists.{suitAll, minusAll, lists-sound, lists-complete, lists-read}
 use Rattle.audit.specs.Flags.{flags-sound, flags-complete}
 
@@ -89,9 +89,6 @@ binned-later w r x =
     omega (arith, ap (cntAll x) (sym d ∙ ap (drop 74) (view-lists w r)))
 
 -- ---- the audit answers sound: words and record spell what is read
-pub few : (w : List ℕ) (ts : List Tile) → TilesOk w 0 ts → length (startsFrom 0 ts) < length w
-few w ts k = omega (arith, starts-length 0 ts (k .fit), k .least, k .top)
-
 pub listsOf-sound : (w r left : List ℕ) → length left < length w → listFault w r 0 left (listsOf w r) ≡ A.Sound
     → suitAll w r 0 (listsOf w r) × ((x : ℕ) → cnt x (minusAll left (listsOf w r)) + cntAll x (listsOf w r) ≡ cnt x left)
 unfolding listsOf

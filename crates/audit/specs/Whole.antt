@@ -15,13 +15,14 @@ use Rattle.machine.specs.View.{tileAt, tilesOf, view}
 use Rattle.machine.specs.Audit.{sound?, first, recordFault, tileFault, listFault, flagFault, auditOf}
 use Rattle.machine.specs.declared.Audited.{Audited}
 use Rattle.machine.specs.declared.Audited.the-variants as A
-use Rattle.audit_leaves.specs.Leaves.{unmet}
-use Rattle.audit.specs.Tests.{not-sound, first-fault}
 use Rattle.sound.specs.Tiles.{starts-once}
-use Rattle.audit.specs.Tiles.{tiles-sound}
+use Rattle.audit_lists.specs.Listed.{unmet}
+use Rattle.audit_walks.specs.Tests.{not-sound, first-fault}
+use Rattle.audit_walks.specs.Tiles.{tiles-sound, few}
+use Rattle.audit_walks.specs.Marks.{ArenaBytes, Bytes, Clear, TilesDone, Flagging, FlagsDone, startsOf}
 use Rattle.audit.specs.Lists.{minusAll}
-use Rattle.audit.specs.Spelled.{listsOf, view-lists, total-lists, binned-later, few, listsOf-sound}
-use Rattle.audit.specs.Marks.{ArenaBytes, Bytes, Clear, TilesDone, ListsDone, Flagging, FlagsDone, AuditDone, startsOf, binnedOf}
+use Rattle.audit.specs.Spelled.{listsOf, view-lists, total-lists, binned-later, listsOf-sound}
+use Rattle.audit.specs.Done.{ListsDone, AuditDone, binnedOf}
 use Rattle.audit.specs.MarkLaws.{unmet-has, bins-told}
 
 -- ---- mark 1 is a live block: a chunk, not the top, that no list has

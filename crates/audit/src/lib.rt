@@ -1,8 +1,6 @@
 // The audit: sound, or the first fault of arena and record, in the order record, tiles, lists, flags. Linear in the arena: each tile is read twice, each
-// chunk of a list once. Assumes nothing.
-mod tiles; // tiles.rt: the tile loop
+// chunk of a list once. The walks over the tiles stand in the crate audit_walks. Assumes nothing.
 mod lists; // lists.rt: the nested loop over lists and chunks
-mod flags; // flags.rt: the flag loop
 mod look; // look.rt: what a call finds before it writes
 
 pub use look::Look;
@@ -11,7 +9,8 @@ ghost use mathlib.Core.Path.{_≡_};
 ghost use lib.ListN.{length};
 ghost use Rattle.le.specs.Arena.{arenaWords};
 ghost use Rattle.machine.specs.Audit.{auditOf};
-ghost use Rattle.audit.specs.Marks.{ArenaBytes, Bytes, Clear, AuditDone};
+ghost use Rattle.audit_walks.specs.Marks.{ArenaBytes, Bytes, Clear};
+ghost use Rattle.audit.specs.Done.{AuditDone};
 use machine::Audited;
 
 // The marks m, all 0 and one for each 16 bytes of arena, are lent: in a sound heap they are then 1 exactly at the live blocks.
@@ -23,7 +22,7 @@ fn audit_marks(a: &[u8], r: &[u32], m: &mut [u8]) -> Audited
         return Audited::Record;
     }
     let top = r[sizes::TOP_WORD];
-    let t = tiles::tile_fault(a, top, m);
+    let t = audit_walks::tile_fault(a, top, m);
     if !machine::is_sound(t) {
         return t;
     }
@@ -31,7 +30,7 @@ fn audit_marks(a: &[u8], r: &[u32], m: &mut [u8]) -> Audited
     if !machine::is_sound(l) {
         return l;
     }
-    flags::flag_fault(a, top, m)
+    audit_walks::flag_fault(a, top, m)
 }
 
 // The answer does not depend on the block that a look asks about.

@@ -3,7 +3,8 @@
 ghost use mathlib.Core.Path.{_≡_};
 ghost use lib.ListN.{length};
 ghost use Rattle.le.specs.Arena.{arenaWords};
-ghost use Rattle.audit.specs.Marks.{Bytes, Started, ListsDone};
+ghost use Rattle.audit_walks.specs.Marks.{Bytes, Started};
+ghost use Rattle.audit.specs.Done.{ListsDone};
 use machine::Audited;
 use sizes::NONE64;
 
@@ -16,24 +17,24 @@ pub fn list_fault(a: &[u8], r: &[u32], m: &mut [u8]) -> Audited
     let mut fault = Audited::Sound;
     let mut i: u32 = 0;
     'lists: while i < 200 {
-        let j = audit_leaves::skip(r, i);
+        let j = empties::skip(r, i);
         if j == 200 {
             break;
         }
-        let k = audit_leaves::kind_at(j);
-        let v = audit_leaves::mark(k);
-        let mut c = audit_leaves::head(r, k);
+        let k = audit_lists::kind_at(j);
+        let v = audit_lists::mark(k);
+        let mut c = audit_lists::head(r, k);
         let mut p = NONE64;
         let mut q: u64 = 0;
         let mut n: u32 = 0;
         while c != NONE64 {
-            if !audit_leaves::unmet(m, c) {
+            if !audit_lists::unmet(m, c) {
                 fault = Audited::List(k);
                 break 'lists;
             }
             let at = c as usize;
             let s = audit_leaves::size_word(a, at).size();
-            if !audit_leaves::fits(a, k, at, s, p, q, n) {
+            if !audit_lists::fits(a, k, at, s, p, q, n) {
                 fault = Audited::List(k);
                 break 'lists;
             }
@@ -43,7 +44,7 @@ pub fn list_fault(a: &[u8], r: &[u32], m: &mut [u8]) -> Audited
             n += 1;
             c = audit_leaves::forward(a, at);
         }
-        if !audit_leaves::may_end(r, k, p, n) {
+        if !audit_lists::may_end(r, k, p, n) {
             fault = Audited::List(k);
             break 'lists;
         }

@@ -5,8 +5,8 @@ ghost use lib.Dec.{leb};
 ghost use lib.ListN.{length};
 ghost use Rattle.le.specs.Arena.{arenaWords};
 ghost use Rattle.machine.specs.Lists.{both};
-ghost use Rattle.audit_leaves.specs.Leaves.{unmet};
-ghost use Rattle.audit.specs.Marks.{ArenaBytes, Bytes, Clear};
+ghost use Rattle.audit_lists.specs.Listed.{unmet};
+ghost use Rattle.audit_walks.specs.Marks.{ArenaBytes, Bytes, Clear};
 ghost use Rattle.audit.specs.Looks.{lookAt};
 use crate::audit_marks;
 use machine::Audited;
@@ -25,7 +25,7 @@ fn is_live(m: &[u8], mem: u64) -> bool
     if mem < 16 {
         return false;
     }
-    audit_leaves::unmet(m, mem - 16)
+    audit_lists::unmet(m, mem - 16)
 }
 
 fn look_with(a: &[u8], r: &[u32], m: &mut [u8], mem: u64) -> Look

@@ -26,10 +26,9 @@ use Rattle.sound.specs.Relation.{Loose, Good, Sound}
 use Rattle.sound.specs.Tiles.{lt-or-le}
 use Rattle.sound.specs.Live.{live-loose}
 use Rattle.sound.specs.Release.{both-true}
-use Rattle.audit.specs.Tests.{is-sound}
-use Rattle.audit.specs.Marks.{ArenaBytes}
-use Rattle.audit.specs.TileTurn.{arena-words}
-use Rattle.audit.specs.Exact.{audit-sound}
+use Rattle.audit_walks.specs.Tests.{is-sound}
+use Rattle.audit_walks.specs.Marks.{ArenaBytes}
+use Rattle.audit.specs.Exact.{arena-words, audit-sound}
 use Rattle.audit.specs.Looks.{liveMem?, lookAt, look-is-faulty, look-is-live, look-is-dead}
 use Rattle.audit.specs.declared.look.Look.{Look}
 use Rattle.audit.specs.declared.look.Look.the-variants.{Faulty, NotLive, Live}

@@ -6,8 +6,8 @@ use lib.ListN.{length, getD}
 use borrow.Author.Tests.{not-true, not-false}
 use borrow.Author.Needs.{needs}
 use Rattle.le.specs.Arena.{arenaWords}
-use Rattle.audit.specs.Tests.{is-sound}
-use Rattle.audit.specs.TileTurn.{arena-length}
+use Rattle.audit_walks.specs.Tests.{is-sound}
+use Rattle.audit_walks.specs.TileTurn.{arena-length}
 use Rattle.audit.specs.Whole.{audit-record, audit-tile, audit-list, flagging, audit-flag, bytes-kept}
 use Rattle.audit.proofs.audit_marks.Statement.{statement}
 use Rattle.audit.proofs.audit_marks.Tie as tie

@@ -10,7 +10,7 @@ use Rattle.le.specs.Arena.{arenaWords}
 use Rattle.machine.specs.Lists.{cnt}
 use Rattle.machine.specs.View.{sizeAt}
 use Rattle.machine.specs.declared.Audited.the-variants as A
-use Rattle.audit.specs.TileTurn.{arena-length}
+use Rattle.audit_walks.specs.TileTurn.{arena-length}
 use Rattle.audit.specs.MarkLaws.{unmet-inside, unmet-one, mark-less}
 use Rattle.audit.specs.ListTurn.{Out, In, lists-enter, list-skip, list-begin, list-met, list-unfit, list-turn, list-end-bad, list-leave, lists-done, kind-words}
 use Rattle.audit.proofs.lists.list_fault.Statement.{statement}

@@ -3,7 +3,7 @@ use Prim.Native.Nat.{_+_, _/_}
 use native.Mathlib.Omega.{arith}
 use borrow.Author.Needs.{needs}
 use Rattle.le.specs.Arena.{arenaWords}
-use Rattle.audit_leaves.specs.Ways.{word-at}
+use Rattle.audit_leaves.specs.Words.{word-at}
 use Rattle.audit_leaves.proofs.chunk.size_word.Statement.{statement}
 use Rattle.audit_leaves.proofs.chunk.size_word.Tie as tie
 

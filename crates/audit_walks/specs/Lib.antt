@@ -1,0 +1,5 @@
+pub mod Tests
+pub mod Tiles
+pub mod Marks
+pub mod TileTurn
+pub mod FlagTurn
