@@ -39,7 +39,7 @@ fn pass(a: &mut [u8], r: &mut [u32], b: u64) -> Got
     if let Got::At(c) = g7 {
         return Got::At(c);
     }
-    takes::step9(a, r, b)
+    tops::step9(a, r, b)
 }
 
 // A short top, and fast chunks: consolidate and go to 5.

@@ -1,3 +1,2 @@
-pub mod Newcomer
 pub mod Turns
 pub mod Loop

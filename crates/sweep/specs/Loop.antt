@@ -34,7 +34,7 @@ use Rattle.fields.specs.Follow.{Ok, answer, Gave, Does}
 use Rattle.fields.specs.FollowLaws.{gave-by, gave-more, gave-giving, gave-none, gave-ok}
 use Rattle.fields.specs.Reach.{more-nil, more-more}
 use Rattle.prims.specs.Stacks.{ok-head}
-use Rattle.sweep.specs.Newcomer.{ahead, ahead-first}
+use Rattle.placing.specs.Newcomer.{ahead, ahead-first}
 use Rattle.sweep.specs.Turns.{turn-empty}
 
 -- ---- a turn that keeps or bins a chunk leaves one fewer in unsorted, where there were m

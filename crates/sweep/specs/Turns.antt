@@ -8,16 +8,15 @@ use Prim.Native.Nat.{ℕ, suc, _+_, _≤_, _<_}
 use native.Mathlib.Omega.{arith}
 use lib.Dec.{eqb, ltb}
 use lib.ListN.{length, getD, set}
-use borrow.Author.Tests.{eq-eqb, ne-eqb, lt-ltb, le-ltb, le-leb, lt-leb, ltb-true}
+use borrow.Author.Tests.{eq-eqb, ne-eqb, lt-ltb, le-ltb, ltb-true}
 use Rattle.le.specs.Arena.{arenaWords}
-use Rattle.sizes.specs.Limits.{none32, none64, large, unsorted, mostCached, cacheRoom}
-use Rattle.sizes.specs.Layout.{binFirst, binLast, remainderWord, cacheCount}
-use Rattle.sizes.specs.Sizes.{cacheOf}
+use Rattle.sizes.specs.Limits.{none32, none64, large, unsorted}
+use Rattle.sizes.specs.Layout.{binFirst, binLast, remainderWord}
 use Rattle.machine.specs.Lists.{both, hd, lst, some?, cnt}
 use Rattle.machine.specs.Count.{ind-same, cnt-le-all}
-use Rattle.machine.specs.Heap.{Heap, stack, bin, starts, sizeOf, next}
+use Rattle.machine.specs.Heap.{Heap, bin, starts, sizeOf, next}
 use Rattle.machine.specs.Writes.{size, put, Ran, heapOf, giving, _>>=_, ran}
-use Rattle.machine.specs.Primitives.{push, unlink, setP, setRemainder}
+use Rattle.machine.specs.Primitives.{unlink, setP, setRemainder}
 use Rattle.machine.specs.Grant.{takeLast, split, sortIn, lone?, splitLone, keep, turnAt, turn}
 use Rattle.machine.specs.View.{sizeAt}
 use Rattle.machine.specs.declared.{Turn.Turn}
@@ -35,7 +34,6 @@ use Rattle.fields.specs.FollowLaws.{gave-by, gave-then, gave-giving, gave-none,
 use Rattle.prims.specs.Places.{Home}
 use Rattle.prims.specs.Chunks.{Chunk, Inside, in-bytes, start-chunk}
 use Rattle.prims.specs.Sizes.{chunk-says, set-p-gave}
-use Rattle.prims.specs.Stacks.{ok-cacheCount}
 use Rattle.prims.specs.Bins.{ok-bin, ok-first, ok-last}
 use Rattle.cuts.specs.Taken.{Taken}
 use Rattle.cuts.specs.Carving.{unlinked}
@@ -133,33 +131,6 @@ lone-is h w r b c z o L e =
     ap (λ (t : Bool). both (ltb b large) (both t (both (eqb c (getD r remainderWord 0)) (ltb (b + 32) z)))) f
     ∙ ap (λ (x : ℕ). both (ltb b large) (both (eqb (length (bin h unsorted)) 1) (both (eqb c x) (ltb (b + 32) z)))) m
     ∙ ap (λ (z : ℕ). both (ltb b large) (both (eqb (length (bin h unsorted)) 1) (both (eqb c (h .remainder)) (ltb (b + 32) z)))) (sym (last-size h w r c z o L e))
-
--- ---- keep, by its tests
-module _ (h : Heap) (w r : List ℕ) (b c : ℕ) (o : Ok h w r) where
-  pub keep-large-gave : 1040 < b → Gave Turn (keep b c h) (T.Granted c) w w r
-  unfolding keep
-  keep-large-gave l = gave-by (rw (lt-leb b mostCached l, keep)) (gave-none h (T.Granted c) w r (o .rec))
-
-  module _ (l : b ≤ 1040) (k : ℕ) (ek : k ≡ cacheOf b) (k64 : k < 64) where
-    room-is : length (stack h (cacheOf b)) ≡ getD r (cacheCount k) 0
-    room-is = ap (λ (k : ℕ). length (stack h k)) (sym ek) ∙ sym (ok-cacheCount h w r o k k64)
-
-    pub keep-full-gave : 7 ≤ getD r (cacheCount k) 0 → Gave Turn (keep b c h) (T.Granted c) w w r
-    unfolding keep
-    keep-full-gave n =
-        gave-by (rw (le-leb b mostCached l, keep) (rw (le-ltb (length (stack h (cacheOf b))) cacheRoom (omega (arith, room-is)))))
-        (gave-none h (T.Granted c) w r (o .rec))
-
-    -- what the push asks
-    pub keep-room : getD r (cacheCount k) 0 < 7 → length (stack h k) < 7
-    keep-room n = omega (arith, ok-cacheCount h w r o k k64)
-
-    pub keep-push-gave : getD r (cacheCount k) 0 < 7 → Loose h c → (v q : List ℕ)
-        → Does (Unit {0}) (λ h. Loose h c × (length (stack h k) < 7)) (push k c) w r tt v q → Gave Turn (keep b c h) T.Cached w v q
-    unfolding keep
-    keep-push-gave n lo v q d =
-        gave-by (rw (le-leb b mostCached l, keep) (rw (lt-ltb (length (stack h (cacheOf b))) cacheRoom (omega (arith, room-is))) (ap (λ (k : ℕ). giving T.Cached (push k c h)) (sym ek))))
-        (gave-giving (push k c h) tt T.Cached (d .does h o (lo, keep-room n)))
 
 -- ---- c is taken out: kept if its size is b, else binned
 unfoldable pub takeOut : ℕ → ℕ → Heap → Ran Turn

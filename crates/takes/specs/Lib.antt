@@ -3,5 +3,4 @@ pub mod Tests
 pub mod Heads
 pub mod Lasts
 pub mod Steps
-pub mod Top
 pub mod AnyFast

@@ -1,5 +1,4 @@
-// The steps of grant that take a chunk as it stands, 1 to 3, and the one that takes from the top, 9. And whether some fast list has a chunk.
-use fields::set_size;
+// The steps of grant that take a chunk as it stands, 1 to 3. And whether some fast list has a chunk.
 use machine::Got;
 use prims::push_cache;
 use prims::set_p;
@@ -12,20 +11,18 @@ use sizes::CACHE_ROOM;
 use sizes::FAST_HEADS;
 use sizes::FAST_LISTS;
 use sizes::LARGE;
-use sizes::LENGTH_WORD;
 use sizes::MOST_CACHED;
 use sizes::MOST_FAST;
 use sizes::NONE32;
-use sizes::TOP_WORD;
 ghost use mathlib.Core.Path.{_≡_};
 ghost use mathlib.Core.List.{List};
-ghost use Prim.Native.Nat.{ℕ, _+_, _%_, _≤_, _<_};
+ghost use Prim.Native.Nat.{ℕ, _%_, _≤_, _<_};
 ghost use lib.ListN.{length};
 ghost use Rattle.le.specs.Arena.{arenaWords};
 ghost use Rattle.sizes.specs.Layout.{binLast};
 ghost use Rattle.sizes.specs.Sizes.{binOf};
 ghost use Rattle.machine.specs.Heap.{Heap, anyFast?};
-ghost use Rattle.machine.specs.Grant.{step1, step2, takeLast, step3, step9};
+ghost use Rattle.machine.specs.Grant.{step1, step2, takeLast, step3};
 ghost use Rattle.sound.specs.Relation.{Good};
 ghost use Rattle.fields.specs.Follow.{Ok, Has, Does};
 ghost use Rattle.takes.specs.Moves.{moveHeads, moveRest, Last};
@@ -138,19 +135,4 @@ pub fn any_fast(r: &[u32]) -> bool
         k += 1;
     }
     false
-}
-
-pub fn step9(a: &mut [u8], r: &mut [u32], b: u64) -> Got
-    requires { ⌜ (b % 16 ≡ 0) × (32 ≤ b) × (b ≤ 262160) × Has Good (arenaWords (now a)) (now r) ⌝ }
-    ensures { λ g. ⌜ Does Got Good (step9 b) (arenaWords (now (a .entry))) (now (r .entry)) g (arenaWords (now (a .exit))) (now (r .exit)) ⌝ }
-{
-    let top = r[TOP_WORD] as u64;
-    let s = r[LENGTH_WORD] as u64 - top;
-    if s < b + 32 {
-        return Got::Nothing;
-    }
-    set_size(a, top, b, 1);
-    set_size(a, top + b, s - b, 1);
-    r[TOP_WORD] = (top + b) as u32;
-    Got::At(top as u32)
 }

@@ -9,7 +9,7 @@ use Rattle.le.specs.Arena.{arenaWords}
 use Rattle.sizes.specs.Limits.{unsorted}
 use Rattle.sizes.specs.Layout.{binFirst}
 use Rattle.machine.specs.View.{up}
-use Rattle.sweep.specs.Newcomer.{ahead}
+use Rattle.placing.specs.Newcomer.{ahead}
 use Rattle.sweep.specs.Loop.{Sweeping, reach-start, reach-stop, reach-does, fewer-ahead, way-granted, way-cached, way-binned, way-empty}
 use borrow.Author.Needs.{needs}
 use Rattle.sweep.proofs.step5.Statement.{statement}

@@ -1,9 +1,9 @@
--- `sweep::sort_in` meets its contract: first in a small bin, and between its neighbours in a large one (`sort-small-gave`, `sort-large-gave`). Assumes nothing.
+-- `placing::sort_in` meets its contract: first in a small bin, and between its neighbours in a large one (`sort-small-gave`, `sort-large-gave`). Assumes nothing.
 use native.Mathlib.Omega.{arith}
-use Rattle.sweep.specs.Newcomer.{own-low, sort-small-gave, sort-large-gave}
+use Rattle.placing.specs.Newcomer.{own-low, sort-small-gave, sort-large-gave}
 use borrow.Author.Needs.{needs}
-use Rattle.sweep.proofs.sort_in.Statement.{statement}
-use Rattle.sweep.proofs.sort_in.Tie as tie
+use Rattle.placing.proofs.sort_in.Statement.{statement}
+use Rattle.placing.proofs.sort_in.Tie as tie
 
 bin-of-requires : tie.Need-bin-of-requires
 bin-of-requires c κs = search needs

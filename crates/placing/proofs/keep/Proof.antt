@@ -1,11 +1,11 @@
--- `sweep::keep` meets its contract: too large a chunk, a full cache list, and one with room (`keep-large-gave`, `keep-full-gave`, `keep-push-gave`).
+-- `placing::keep` meets its contract: too large a chunk, a full cache list, and one with room (`keep-large-gave`, `keep-full-gave`, `keep-push-gave`).
 -- The count that the record has is the list's length. Assumes nothing.
 use native.Mathlib.Omega.{arith}
 use Rattle.prims.specs.Stacks.{ok-length}
-use Rattle.sweep.specs.Turns.{keep-large-gave, keep-full-gave, keep-room, keep-push-gave}
+use Rattle.placing.specs.Keep.{keep-large-gave, keep-full-gave, keep-room, keep-push-gave}
 use borrow.Author.Needs.{needs}
-use Rattle.sweep.proofs.keep.Statement.{statement}
-use Rattle.sweep.proofs.keep.Tie as tie
+use Rattle.placing.proofs.keep.Statement.{statement}
+use Rattle.placing.proofs.keep.Tie as tie
 
 returns : tie.Need-returns
 returns c = record { does = λ h o lo. keep-large-gave h _ _ _ _ o (c .if1 .taken) }

@@ -1,11 +1,11 @@
--- `sweep::place` meets its contract: the loop walks the bin (`Walking`), and each way out is a law of the walk. The measure is what is ahead. Assumes nothing.
+-- `placing::place` meets its contract: the loop walks the bin (`Walking`), and each way out is a law of the walk. The measure is what is ahead. Assumes nothing.
 use native.Mathlib.Omega.{arith}
 use Rattle.le.specs.Arena.{arenaWords}
 use Rattle.prims.specs.Stacks.{ok-length}
-use Rattle.sweep.specs.Newcomer.{Walking, ahead, on-start, here-inside, goes-smaller, goes-equal, goes-end, on-next, ahead-less}
+use Rattle.placing.specs.Newcomer.{Walking, ahead, on-start, here-inside, goes-smaller, goes-equal, goes-end, on-next, ahead-less}
 use borrow.Author.Needs.{needs}
-use Rattle.sweep.proofs.place.Statement.{statement}
-use Rattle.sweep.proofs.place.Tie as tie
+use Rattle.placing.proofs.place.Statement.{statement}
+use Rattle.placing.proofs.place.Tie as tie
 
 abbrev Inv-loop : tie.InvT-loop
 Inv-loop a r j z p₀ n₀ p n = Walking j z p n (arenaWords a) r

@@ -1,13 +1,13 @@
--- `takes::step9` meets its contract: the top lies where the record says, and both size words and the top are the machine's. Assumes nothing.
+-- `tops::step9` meets its contract: the top lies where the record says, and both size words and the top are the machine's. Assumes nothing.
 use native.Mathlib.Omega.{arith}
 use lib.ListN.{length, getD}
 use denote.Ref.{now}
 use Rattle.sizes.specs.Layout.{lengthWord, topWord}
 use Rattle.prims.specs.Stacks.{ok-length}
-use Rattle.takes.specs.Top.{TopAt, top-at, short9, took9}
+use Rattle.tops.specs.Top.{TopAt, top-at, short9, took9}
 use borrow.Author.Needs.{needs}
-use Rattle.takes.proofs.step9.Statement.{statement}
-use Rattle.takes.proofs.step9.Tie as tie
+use Rattle.tops.proofs.step9.Statement.{statement}
+use Rattle.tops.proofs.step9.Tie as tie
 
 top : (c : tie.Start) → TopAt (length (now (c .args .a))) (getD (now (c .args .r)) topWord 0) (getD (now (c .args .r)) lengthWord 0)
 top c = top-at _ _ (c .pre .3)

@@ -1,0 +1,2 @@
+pub mod Newcomer
+pub mod Keep
