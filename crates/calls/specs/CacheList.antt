@@ -26,7 +26,7 @@ use Rattle.sound.specs.Relation.{Shape, Loose, Good}
 use Rattle.sound.specs.RecordOf.{record-cacheHead, record-cacheCount, record-withCache}
 use Rattle.fields.specs.Follow.{Has, answer, Does}
 use Rattle.fields.specs.FollowLaws.{gave-by, gave-giving, got-absurd}
-use Rattle.joins.specs.Offered.{Offered}
+use Rattle.releases.specs.Offered.{Offered}
 
 -- the words p are the words q but for head and count of cache list k
 abbrev pub CacheOnly : ℕ → List ℕ → List ℕ → Type 0
