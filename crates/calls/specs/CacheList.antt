@@ -24,7 +24,7 @@ use Rattle.sound.specs.RecordOf.{record-cacheHead, record-cacheCount, record-wi
 use Rattle.cached.specs.CacheOnly.{CacheOnly}
 use Rattle.fields.specs.Follow.{Has, answer, Does}
 use Rattle.fields.specs.FollowLaws.{gave-by, gave-giving, got-absurd}
-use Rattle.joins.specs.Offered.{Offered}
+use Rattle.releases.specs.Offered.{Offered}
 
 -- the record's words when cache list k became l
 pub cache-only : (h : Heap) (k : ℕ) (l q p : List ℕ) → Shape h → k < 64 → q ≡ recordOf h → p ≡ recordOf (withStack k l h) → CacheOnly k q p

@@ -21,12 +21,12 @@ fn give_back(arena: &mut [u8], control: &mut [u8], r: &mut [u32], c: u64)
     requires { ⌜ Has (λ h. Good h × Loose h c) (arenaWords (now arena)) (now r) × (length (now control) ≡ 1572) × (now r ≡ wordsOf (now control)) ⌝ }
     ensures { λ _. ⌜ Does (Unit {0}) (λ h. Good h × Loose h c) (λ h. giving tt (release c h)) (arenaWords (now (arena .entry))) (now (r .entry)) tt (arenaWords (now (arena .exit))) (now (r .exit)) × (now (control .exit) ≡ bytes 4 (now (r .exit))) ⌝ }
 {
-    let k = joins::to_cache(arena, r, c);
+    let k = releases::to_cache(arena, r, c);
     if k < CACHE_LISTS {
         put_cache(control, r, k);
         return;
     }
-    joins::release_past(arena, r, c);
+    releases::release_past(arena, r, c);
     le::write_words(control, r);
 }
 

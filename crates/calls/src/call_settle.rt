@@ -21,7 +21,7 @@ pub fn settle(arena: &mut [u8], control: &mut [u8]) -> Answer
     if !machine::is_sound(f) {
         return Answer::Refused(Refusal::Unsound);
     }
-    joins::settle(arena, &mut r);
+    settles::settle(arena, &mut r);
     le::write_words(control, &r);
     Answer::Done
 }

@@ -1,5 +1,5 @@
 // Grant behind the cache: document 01's steps 2 to 9 in their order, each where those before it found nothing.
-use joins::consolidate;
+use drains::consolidate;
 use machine::Got;
 use sizes::LARGE;
 use takes::any_fast;

@@ -1,41 +1,24 @@
-// Release, join, consolidate and settle, in document 01's order.
+// Join: a chunk that is loose takes in its free neighbours, and becomes the top or goes first in unsorted.
 use fields::note_at;
 use fields::p_at;
 use fields::set_size;
 use fields::size_at;
 use fields::size_word_at;
 use prims::clear_p;
-use prims::push_cache;
-use prims::push_fast;
 use prims::put_first;
-use prims::take_cache;
-use prims::take_fast;
 use prims::unlink;
-use sizes::CACHE_COUNTS;
-use sizes::CACHE_HEADS;
-use sizes::CACHE_LISTS;
-use sizes::CACHE_ROOM;
-use sizes::FAST_HEADS;
-use sizes::FAST_LISTS;
 use sizes::LENGTH_WORD;
-use sizes::MOST_CACHED;
-use sizes::MOST_FAST;
-use sizes::NONE32;
-use sizes::REMAINDER_WORD;
 use sizes::SizeWord;
 use sizes::TOP_WORD;
 use sizes::UNSORTED;
 ghost use mathlib.Core.Path.{_≡_};
-ghost use Prim.Native.Nat.{ℕ, _<_};
+ghost use Prim.Native.Nat.{ℕ};
 ghost use Rattle.le.specs.Arena.{arenaWords};
-ghost use Rattle.machine.specs.Heap.{fastAt};
-ghost use Rattle.machine.specs.Release.{absorb, joinNext, putDown, join, releasePast, consolidate, emptying, joining, settle};
+ghost use Rattle.machine.specs.Release.{absorb, joinNext, putDown, join};
 ghost use Rattle.machine.specs.View.{sizeAt};
 ghost use Rattle.sound.specs.Relation.{Good, Loose};
 ghost use Rattle.fields.specs.Follow.{Has, Does};
 ghost use Rattle.joins.specs.States.{Taking, Open, joinRest};
-ghost use Rattle.joins.specs.Offered.{Offered};
-ghost use Rattle.joins.specs.Drain.{drainOf};
 
 // x, of size zx, leaves its bin, and c takes in the chunk after it: s is the whole's size.
 fn absorb(a: &mut [u8], r: &mut [u32], x: u64, zx: u64, c: u64, s: u64)
@@ -105,92 +88,4 @@ pub fn join(a: &mut [u8], r: &mut [u32], c: u64) -> u64
     let s = d + z;
     absorb(a, r, q, d, q, s);
     join_rest(a, r, q, s)
-}
-
-pub fn release_past(a: &mut [u8], r: &mut [u32], c: u64) -> u64
-    requires { ⌜ Has (λ h. Good h × Loose h c) (arenaWords (now a)) (now r) ⌝ }
-    ensures { λ s. ⌜ Does ℕ (λ h. Good h × Loose h c) (releasePast c) (arenaWords (now (a .entry))) (now (r .entry)) s (arenaWords (now (a .exit))) (now (r .exit)) ⌝ }
-{
-    let z = size_at(a, c);
-    if z <= MOST_FAST {
-        push_fast(a, r, sizes::fast_list(z), c);
-        return 0;
-    }
-    join(a, r, c)
-}
-
-// c goes on the cache list of its size if that has room. Answers the list's number, 64 where nothing was done.
-pub fn to_cache(a: &mut [u8], r: &mut [u32], c: u64) -> usize
-    requires { ⌜ Has (λ h. Loose h c) (arenaWords (now a)) (now r) ⌝ }
-    ensures { λ k. ⌜ Offered c k (arenaWords (now (a .entry))) (now (r .entry)) (arenaWords (now (a .exit))) (now (r .exit)) ⌝ }
-{
-    let z = size_at(a, c);
-    if z <= MOST_CACHED {
-        let k = sizes::cache_list(z);
-        if r[CACHE_COUNTS + k] < CACHE_ROOM {
-            push_cache(a, r, k, c);
-            return k;
-        }
-    }
-    CACHE_LISTS
-}
-
-// Fast list k is emptied from its head, each chunk joined.
-fn drain_fast(a: &mut [u8], r: &mut [u32], k: usize)
-    requires { ⌜ (k < 10) × Has Good (arenaWords (now a)) (now r) ⌝ }
-    ensures { λ _. ⌜ Does (Unit {0}) Good (drainOf join (fastAt k)) (arenaWords (now (a .entry))) (now (r .entry)) tt (arenaWords (now (a .exit))) (now (r .exit)) ⌝ }
-{
-    while r[FAST_HEADS + k] != NONE32 {
-        let c = take_fast(a, r, k);
-        join(a, r, c);
-    }
-}
-
-pub fn consolidate(a: &mut [u8], r: &mut [u32])
-    requires { ⌜ Has Good (arenaWords (now a)) (now r) ⌝ }
-    ensures { λ _. ⌜ Does (Unit {0}) Good consolidate (arenaWords (now (a .entry))) (now (r .entry)) tt (arenaWords (now (a .exit))) (now (r .exit)) ⌝ }
-{
-    let mut k: usize = 0;
-    while k < FAST_LISTS {
-        drain_fast(a, r, k);
-        k += 1;
-    }
-}
-
-// Cache list k is emptied from its head, each chunk released past the cache.
-fn drain_cache(a: &mut [u8], r: &mut [u32], k: usize)
-    requires { ⌜ (k < 64) × Has Good (arenaWords (now a)) (now r) ⌝ }
-    ensures { λ _. ⌜ Does (Unit {0}) Good (drainOf releasePast k) (arenaWords (now (a .entry))) (now (r .entry)) tt (arenaWords (now (a .exit))) (now (r .exit)) ⌝ }
-{
-    while r[CACHE_HEADS + k] != NONE32 {
-        let c = take_cache(a, r, k);
-        release_past(a, r, c);
-    }
-}
-
-pub fn emptying(a: &mut [u8], r: &mut [u32])
-    requires { ⌜ Has Good (arenaWords (now a)) (now r) ⌝ }
-    ensures { λ _. ⌜ Does (Unit {0}) Good emptying (arenaWords (now (a .entry))) (now (r .entry)) tt (arenaWords (now (a .exit))) (now (r .exit)) ⌝ }
-{
-    let mut k: usize = 0;
-    while k < CACHE_LISTS {
-        drain_cache(a, r, k);
-        k += 1;
-    }
-}
-
-pub fn joining(a: &mut [u8], r: &mut [u32])
-    requires { ⌜ Has Good (arenaWords (now a)) (now r) ⌝ }
-    ensures { λ _. ⌜ Does (Unit {0}) Good joining (arenaWords (now (a .entry))) (now (r .entry)) tt (arenaWords (now (a .exit))) (now (r .exit)) ⌝ }
-{
-    consolidate(a, r);
-    r[REMAINDER_WORD] = NONE32;
-}
-
-pub fn settle(a: &mut [u8], r: &mut [u32])
-    requires { ⌜ Has Good (arenaWords (now a)) (now r) ⌝ }
-    ensures { λ _. ⌜ Does (Unit {0}) Good settle (arenaWords (now (a .entry))) (now (r .entry)) tt (arenaWords (now (a .exit))) (now (r .exit)) ⌝ }
-{
-    emptying(a, r);
-    joining(a, r);
 }

@@ -1,14 +1,14 @@
--- `joins::release_past` meets its contract: on the fast list up to 128, else joined. Assumes nothing.
+-- `releases::release_past` meets its contract: on the fast list up to 128, else joined. Assumes nothing.
 use native.Mathlib.Omega.{arith}
 use borrow.Author.Needs.{needs}
 use Prim.Native.Nat.{_≤_}
 use lib.ListN.{length}
 use Rattle.prims.specs.Chunks.{Inside}
 use Rattle.prims.specs.Stacks.{loose-inside}
 use Rattle.joins.specs.Reads.{size-inside}
-use Rattle.joins.specs.Release.{loose-least, past-fast-gave, past-join-gave}
-use Rattle.joins.proofs.release_past.Statement.{statement}
-use Rattle.joins.proofs.release_past.Tie as tie
+use Rattle.releases.specs.Release.{loose-least, past-fast-gave, past-join-gave}
+use Rattle.releases.proofs.release_past.Statement.{statement}
+use Rattle.releases.proofs.release_past.Tie as tie
 
 at : (s : tie.Start) → Inside (length (s .args .a .now)) (s .args .c)
 at s = loose-inside _ _ _ (s .pre .ok) _ (s .pre .holds .1)

@@ -17,8 +17,8 @@ use Rattle.sound.specs.Relation.{Loose, Good}
 use Rattle.fields.specs.Follow.{Ok, Gave, Does}
 use Rattle.fields.specs.FollowLaws.{gave-by, gave-giving}
 use Rattle.prims.specs.Stacks.{ok-cacheCount}
 use Rattle.joins.specs.Reads.{loose-reads}
-use Rattle.joins.specs.Offered.{Offered}
+use Rattle.releases.specs.Offered.{Offered}
 
 -- ---- the machine's steps by their tests, at a chunk of size z
 past-fast : (c z : ℕ) (h : Heap) → sizeOf h c ≡ z → z ≤ 128 → releasePast c h ≡ giving 0 (push (fastAt (fastOf z)) c h)

@@ -10,13 +10,13 @@ use lib.ListN.{length, getD}
 use lib.Seq.{getD-set-same}
 use borrow.Author.Tests.{ne-eqb}
 use Rattle.sizes.specs.Limits.{none32, none64}
-use Rattle.sizes.specs.Layout.{cacheHead, cacheCount, fastHead}
+use Rattle.sizes.specs.Layout.{fastHead}
 use Rattle.machine.specs.Lists.{hd, tl, some?, cnt}
 use Rattle.machine.specs.Count.{ind-same, cnt-here, cnt-there, cntAll-set, cnt-le-all, pigeons}
 use Rattle.machine.specs.Heap.{Tile, tile, Heap, stack, fastAt, endFrom, startsFrom, topSize, starts}
-use Rattle.machine.specs.Writes.{Ran, ran, heapOf, writes, does, more, _>>=_}
+use Rattle.machine.specs.Writes.{Ran, ran, heapOf, writes, more, _>>=_}
 use Rattle.machine.specs.Primitives.{pop}
-use Rattle.machine.specs.Release.{join, releasePast, drain, drains, consolidate, emptying}
+use Rattle.machine.specs.Release.{join, drain, drains, consolidate}
 use Rattle.machine.specs.View.{up, chunksFrom}
 use Rattle.machine.specs.declared.{Got.Got, Got.the-variants.At}
 use Rattle.sound.specs.Relation.{fits, chain, Mem, Loose, Good}
@@ -24,21 +24,21 @@ use Rattle.sound.specs.Stacks.{pop-ends}
 use Rattle.sound.specs.Tiles.{fits-split}
 use Rattle.sound.specs.Ends.{Ends}
 use Rattle.sound.specs.Moves.{nil, one, any}
-use Rattle.sound.specs.Leaves.{Leaves, Still, Cached}
-use Rattle.sound.specs.Release.{Every, join-leaves, releasePast-leaves}
+use Rattle.sound.specs.Leaves.{Leaves, Still}
+use Rattle.sound.specs.Release.{Every, join-leaves}
 use Rattle.sound.specs.Settle.{drain-leaves}
 use Rattle.fields.specs.Follow.{Ok, Has, Gave, Does}
 use Rattle.fields.specs.FollowLaws.{gave-ok}
 use Rattle.prims.specs.Chunks.{Chunks, up-hd}
-use Rattle.prims.specs.Stacks.{ok-stack, ok-cacheHead, ok-cacheCount, ok-fastHead}
+use Rattle.prims.specs.Stacks.{ok-stack, ok-fastHead}
 use Rattle.fields.specs.Reach.{Reach, Way, more-nil, then-more, way-here, reach-then, reach-end}
 
 -- ---- a stack has a chunk or none, as its head in the record says
-list-none : (w l : List ℕ) → Chunks w l → hd none32 l ≡ none32 → l ≡ []
+pub list-none : (w l : List ℕ) → Chunks w l → hd none32 l ≡ none32 → l ≡ []
 list-none w [] k e = refl
 list-none w (x ∷ l) k e = absurd (omega (arith, k x (cnt-here x l) .small))
 
-list-some : (l : List ℕ) → (hd none32 l ≡ none32 → ⊥) → some? l ≡ true
+pub list-some : (l : List ℕ) → (hd none32 l ≡ none32 → ⊥) → some? l ≡ true
 list-some [] n = absurd (n refl)
 list-some (x ∷ l) n = refl
 
@@ -82,12 +82,6 @@ module _ (h : Heap) (w r : List ℕ) (o : Ok h w r) where
 
   pub fast-none : (k : ℕ) → k < 10 → getD r (fastHead k) 0 ≡ none32 → stack h (fastAt k) ≡ []
   fast-none k hk e = list-none w (stack h (fastAt k)) (ok-stack h w r o (fastAt k)) (sym (ok-fastHead h w r o k hk) ∙ e)
-
-  pub cache-some : (k : ℕ) → k < 64 → (getD r (cacheHead k) 0 ≡ none32 → ⊥) → some? (stack h k) ≡ true
-  cache-some k hk n = list-some (stack h k) (λ e. n (ok-cacheHead h w r o k hk ∙ e))
-
-  pub cache-none : (k : ℕ) → k < 64 → getD r (cacheHead k) 0 ≡ none32 → stack h k ≡ []
-  cache-none k hk e = list-none w (stack h k) (ok-stack h w r o k) (sym (ok-cacheHead h w r o k hk) ∙ e)
 
 -- ---- the machine's drain, from the stack as it is: f is what is done with each chunk, and leaves the stacks of M as they are
 abbrev pub drainOf : (ℕ → Heap → Ran ℕ) → ℕ → Heap → Ran (Unit {0})
@@ -190,7 +184,7 @@ pub drains-done : (f : ℕ → Heap → Ran ℕ) (k : ℕ) {o₀ : Ran (Unit {0}
 unfolding drains
 drains-done f k R = reach-end R tt refl
 
--- ---- what falls with each turn: a fast list's length by the words, a cache list's count in the record
+-- ---- what falls with each turn: a fast list's length by the words
 pub fast-less : (k : ℕ) → k < 10
     → {o₀ : Ran (Unit {0})} {w₀ w r : List ℕ} {c s : ℕ} {q v q′ : List ℕ} (R : Reach (Unit {0}) o₀ (drainOf join (fastAt k)) w₀ w r) → some?
     (stack (R .heap) (fastAt k)) ≡ true
@@ -200,29 +194,13 @@ fast-less k hk {o₀} {w₀} {w} {r} {c} {s} {q} {v} {q′} R m P D =
     let L = drain-fewer join Every join-leaves (fastAt k) (omega arith) tt (R .heap) w r (R .ok) (R .good) m P D in
     omega (arith, left-is (L .heap) v q′ (L .ok) k hk, left-is (R .heap) w r (R .ok) k hk, L .fewer)
 
-pub cache-less : (k : ℕ) → k < 64
-    → {o₀ : Ran (Unit {0})} {w₀ w r : List ℕ} {c s : ℕ} {q v q′ : List ℕ} (R : Reach (Unit {0}) o₀ (drainOf releasePast k) w₀ w r) → some?
-    (stack (R .heap) k) ≡ true
-    → Does Got (λ h. some? (stack h k) ≡ true) (pop k) w r (At c) w q → Does ℕ (λ h. Good h × Loose h c) (releasePast c) w q s v q′
-    → getD q′ (cacheCount k) 0 < getD r (cacheCount k) 0
-cache-less k hk {o₀} {w₀} {w} {r} {c} {s} {q} {v} {q′} R m P D =
-    let L = drain-fewer releasePast Cached releasePast-leaves k (omega arith) hk (R .heap) w r (R .ok) (R .good) m P D in
-    omega (arith, ok-cacheCount (L .heap) v q′ (L .ok) k hk, ok-cacheCount (R .heap) w r (R .ok) k hk, L .fewer)
-
--- ---- the outer loops: what is left of consolidate and of emptying when k lists are empty
+-- ---- the outer loop: what is left of consolidate when k lists are empty
 abbrev pub fromFast : ℕ → Heap → Ran (Unit {0})
 fromFast k = drains join (10 - k) (fastAt k)
-
-abbrev pub fromCache : ℕ → Heap → Ran (Unit {0})
-fromCache k = drains releasePast (64 - k) k
 
 pub consolidate-start : (w r : List ℕ) → Way (Unit {0}) consolidate (fromFast 0) w r w r
 unfolding consolidate
 consolidate-start w r = way-here (drains join 10 64) w r
-
-pub emptying-start : (w r : List ℕ) → Way (Unit {0}) emptying (fromCache 0) w r w r
-unfolding emptying
-emptying-start w r = way-here (drains releasePast 64 0) w r
 
 module _ (k : ℕ) {o₀ : Ran (Unit {0})} {w₀ w r : List ℕ} where
   pub fast-list : k < 10 → {v q : List ℕ} → Reach (Unit {0}) o₀ (fromFast k) w₀ w r → Does (Unit {0}) Good (drainOf join (fastAt k)) w r tt v q
@@ -234,21 +212,7 @@ module _ (k : ℕ) {o₀ : Ran (Unit {0})} {w₀ w r : List ℕ} where
       subst (λ (i : ℕ). Reach (Unit {0}) o₀ (drains join n i) w₀ v q) i
       (drains-next join Every join-leaves (fastAt k) (omega arith) tt n (subst (λ (m : ℕ). Reach (Unit {0}) o₀ (drains join m (fastAt k)) w₀ w r) e R) D)
 
-  pub cache-list : k < 64 → {v q : List ℕ} → Reach (Unit {0}) o₀ (fromCache k) w₀ w r → Does (Unit {0}) Good (drainOf releasePast k) w r tt v q
-      → Reach (Unit {0}) o₀ (fromCache (k + 1)) w₀ v q
-  cache-list hk {v} {q} R D =
-      let n : ℕ = 64 - (k + 1) in
-      let e : 64 - k ≡ suc n = omega arith in
-      let i : suc k ≡ k + 1 = omega arith in
-      subst (λ (i : ℕ). Reach (Unit {0}) o₀ (drains releasePast n i) w₀ v q) i
-      (drains-next releasePast Cached releasePast-leaves k (omega arith) hk n (subst (λ (m : ℕ). Reach (Unit {0}) o₀ (drains releasePast m k) w₀ w r) e R) D)
-
   pub fast-end : 10 ≤ k → Reach (Unit {0}) o₀ (fromFast k) w₀ w r → Gave (Unit {0}) o₀ tt w₀ w r
   fast-end hk R =
       let e : 10 - k ≡ 0 = omega arith in
       drains-done join (fastAt k) (subst (λ (m : ℕ). Reach (Unit {0}) o₀ (drains join m (fastAt k)) w₀ w r) e R)
-
-  pub cache-end : 64 ≤ k → Reach (Unit {0}) o₀ (fromCache k) w₀ w r → Gave (Unit {0}) o₀ tt w₀ w r
-  cache-end hk R =
-      let e : 64 - k ≡ 0 = omega arith in
-      drains-done releasePast k (subst (λ (m : ℕ). Reach (Unit {0}) o₀ (drains releasePast m k) w₀ w r) e R)

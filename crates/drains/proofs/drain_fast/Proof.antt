@@ -1,4 +1,4 @@
--- `joins::drain_fast` meets its contract. The invariant: the drain from the start is what was done so far and then the drain from here. The measure is the
+-- `drains::drain_fast` meets its contract. The invariant: the drain from the start is what was done so far and then the drain from here. The measure is the
 -- list's length by the words. Assumes nothing.
 use native.Mathlib.Omega.{arith}
 use mathlib.Core.Path.{_≡_, refl, _∙_}
@@ -9,9 +9,9 @@ use Rattle.machine.specs.Release.{join}
 use Rattle.sound.specs.Release.{Every, join-leaves}
 use Rattle.prims.specs.Stacks.{ok-length}
 use Rattle.fields.specs.Reach.{Way, way-here}
-use Rattle.joins.specs.Drain.{left, drainOf, fast-some, fast-none, popped-has, drain-next, drain-done, fast-less}
-use Rattle.joins.proofs.drain_fast.Statement.{statement}
-use Rattle.joins.proofs.drain_fast.Tie as tie
+use Rattle.drains.specs.Drain.{left, drainOf, fast-some, fast-none, popped-has, drain-next, drain-done, fast-less}
+use Rattle.drains.proofs.drain_fast.Statement.{statement}
+use Rattle.drains.proofs.drain_fast.Tie as tie
 
 abbrev Inv-loop : tie.InvT-loop
 Inv-loop a₀ r₀ k a r = (length a ≡ length a₀) × (length r ≡ length r₀) × Way (Unit {0}) (drainOf join (fastAt k)) (drainOf join (fastAt k)) (arenaWords a₀) r₀

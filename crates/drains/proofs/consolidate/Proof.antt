@@ -1,4 +1,4 @@
--- `joins::consolidate` meets its contract. The invariant: consolidate from the start is what was done so far and then the rest of it, from list k on.
+-- `drains::consolidate` meets its contract. The invariant: consolidate from the start is what was done so far and then the rest of it, from list k on.
 -- Assumes nothing.
 use native.Mathlib.Omega.{arith}
 use Prim.Native.Nat.{_-_, _≤_}
@@ -7,9 +7,9 @@ use lib.ListN.{length}
 use Rattle.le.specs.Arena.{arenaWords}
 use Rattle.machine.specs.Release.{consolidate}
 use Rattle.fields.specs.Reach.{Way, reach-has}
-use Rattle.joins.specs.Drain.{fromFast, consolidate-start, fast-list, fast-end}
-use Rattle.joins.proofs.consolidate.Statement.{statement}
-use Rattle.joins.proofs.consolidate.Tie as tie
+use Rattle.drains.specs.Drain.{fromFast, consolidate-start, fast-list, fast-end}
+use Rattle.drains.proofs.consolidate.Statement.{statement}
+use Rattle.drains.proofs.consolidate.Tie as tie
 
 abbrev Inv-loop : tie.InvT-loop
 Inv-loop a₀ r₀ k₀ a r k = (length a ≡ length a₀) × (length r ≡ length r₀) × (k ≤ 10) × Way (Unit {0}) consolidate (fromFast k) (arenaWords a₀) r₀

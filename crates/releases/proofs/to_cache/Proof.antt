@@ -1,12 +1,12 @@
--- `joins::to_cache` meets its contract: on the cache list where the size has one with room, else nothing. Assumes nothing.
+-- `releases::to_cache` meets its contract: on the cache list where the size has one with room, else nothing. Assumes nothing.
 use mathlib.Core.Path.{refl}
 use native.Mathlib.Omega.{arith}
 use Rattle.prims.specs.Stacks.{ok-length, loose-inside}
 use Rattle.joins.specs.Reads.{size-inside}
-use Rattle.joins.specs.Release.{loose-least, cached-room, offered-large, offered-full, offered-cached}
+use Rattle.releases.specs.Release.{loose-least, cached-room, offered-large, offered-full, offered-cached}
 use borrow.Author.Needs.{needs}
-use Rattle.joins.proofs.to_cache.Statement.{statement}
-use Rattle.joins.proofs.to_cache.Tie as tie
+use Rattle.releases.proofs.to_cache.Statement.{statement}
+use Rattle.releases.proofs.to_cache.Tie as tie
 
 size-at-requires : tie.Need-size-at-requires
 size-at-requires c κs = let s = c .before .before .before in size-inside (loose-inside _ _ _ (s .pre .ok) _ (s .pre .holds))

@@ -1,8 +1,8 @@
--- `joins::settle` meets its contract: its two parts, with a sound heap between them. Assumes nothing.
+-- `settles::settle` meets its contract: its two parts, with a sound heap between them. Assumes nothing.
 use borrow.Author.Needs.{needs}
-use Rattle.joins.specs.Settle.{emptied-has, settle-gave}
-use Rattle.joins.proofs.settle.Statement.{statement}
-use Rattle.joins.proofs.settle.Tie as tie
+use Rattle.settles.specs.Settle.{emptied-has, settle-gave}
+use Rattle.settles.proofs.settle.Statement.{statement}
+use Rattle.settles.proofs.settle.Tie as tie
 
 emptying-requires : tie.Need-emptying-requires
 emptying-requires c κs = search needs

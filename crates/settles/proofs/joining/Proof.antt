@@ -1,11 +1,11 @@
--- `joins::joining` meets its contract: consolidate, and then one word of the record. Assumes nothing.
+-- `settles::joining` meets its contract: consolidate, and then one word of the record. Assumes nothing.
 use native.Mathlib.Omega.{arith}
 use borrow.Author.Needs.{needs}
 use mathlib.Core.Path.{refl}
 use Rattle.prims.specs.Stacks.{ok-length}
-use Rattle.joins.specs.Settle.{joining-gave}
-use Rattle.joins.proofs.joining.Statement.{statement}
-use Rattle.joins.proofs.joining.Tie as tie
+use Rattle.settles.specs.Settle.{joining-gave}
+use Rattle.settles.proofs.joining.Statement.{statement}
+use Rattle.settles.proofs.joining.Tie as tie
 
 consolidate-requires : tie.Need-consolidate-requires
 consolidate-requires c κs = search needs

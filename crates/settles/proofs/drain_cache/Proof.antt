@@ -1,4 +1,4 @@
--- `joins::drain_cache` meets its contract. The invariant: the drain from the start is what was done so far and then the drain from here. The measure is the
+-- `settles::drain_cache` meets its contract. The invariant: the drain from the start is what was done so far and then the drain from here. The measure is the
 -- list's count. Assumes nothing.
 use native.Mathlib.Omega.{arith}
 use mathlib.Core.Path.{_≡_, refl, _∙_}
@@ -10,9 +10,10 @@ use Rattle.sound.specs.Leaves.{Cached}
 use Rattle.sound.specs.Release.{releasePast-leaves}
 use Rattle.prims.specs.Stacks.{ok-length}
 use Rattle.fields.specs.Reach.{Way, way-here}
-use Rattle.joins.specs.Drain.{drainOf, cache-some, cache-none, popped-has, drain-next, drain-done, cache-less}
-use Rattle.joins.proofs.drain_cache.Statement.{statement}
-use Rattle.joins.proofs.drain_cache.Tie as tie
+use Rattle.drains.specs.Drain.{drainOf, popped-has, drain-next, drain-done}
+use Rattle.settles.specs.Emptying.{cache-some, cache-none, cache-less}
+use Rattle.settles.proofs.drain_cache.Statement.{statement}
+use Rattle.settles.proofs.drain_cache.Tie as tie
 
 abbrev Inv-loop : tie.InvT-loop
 Inv-loop a₀ r₀ k a r = (length a ≡ length a₀) × (length r ≡ length r₀) × Way (Unit {0}) (drainOf releasePast k) (drainOf releasePast k) (arenaWords a₀) r₀

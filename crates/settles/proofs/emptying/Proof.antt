@@ -1,4 +1,4 @@
--- `joins::emptying` meets its contract. The invariant: emptying from the start is what was done so far and then the rest of it, from list k on.
+-- `settles::emptying` meets its contract. The invariant: emptying from the start is what was done so far and then the rest of it, from list k on.
 -- Assumes nothing.
 use native.Mathlib.Omega.{arith}
 use Prim.Native.Nat.{_-_, _≤_}
@@ -7,9 +7,9 @@ use lib.ListN.{length}
 use Rattle.le.specs.Arena.{arenaWords}
 use Rattle.machine.specs.Release.{emptying}
 use Rattle.fields.specs.Reach.{Way, reach-has}
-use Rattle.joins.specs.Drain.{fromCache, emptying-start, cache-list, cache-end}
-use Rattle.joins.proofs.emptying.Statement.{statement}
-use Rattle.joins.proofs.emptying.Tie as tie
+use Rattle.settles.specs.Emptying.{fromCache, emptying-start, cache-list, cache-end}
+use Rattle.settles.proofs.emptying.Statement.{statement}
+use Rattle.settles.proofs.emptying.Tie as tie
 
 abbrev Inv-loop : tie.InvT-loop
 Inv-loop a₀ r₀ k₀ a r k = (length a ≡ length a₀) × (length r ≡ length r₀) × (k ≤ 64) × Way (Unit {0}) emptying (fromCache k) (arenaWords a₀) r₀
