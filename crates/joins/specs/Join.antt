@@ -11,18 +11,18 @@ use Rattle.sizes.specs.Layout.{prevWord, sizeWord}
 use Rattle.sizes.specs.SizeWord.{pOfWord}
 use Rattle.machine.specs.Lists.{lst}
 use Rattle.machine.specs.Heap.{Tile, Heap, endFrom, startsFrom, topSize, sizeOf, pOf, before, binned, total}
-use Rattle.machine.specs.Writes.{size, note, heapOf, does, _>>=_}
+use Rattle.machine.specs.Writes.{heapOf, _>>=_}
 use Rattle.machine.specs.Release.{absorb, joinNext, putDown, join}
 use Rattle.machine.specs.View.{sizeAt}
 use Rattle.sound.specs.Relation.{fits, Loose, Good}
-use Rattle.sound.specs.Tiles.{fits-split, starts-once, Place, place}
+use Rattle.sound.specs.Tiles.{fits-split, starts-once, Place}
 use Rattle.sound.specs.Edits.{tiles-at, size-at, snoc-end, snoc-tiles, fits-tiles}
 use Rattle.sound.specs.Flags.{lastS}
 use Rattle.sound.specs.Ends.{Ends, ends-weaken}
 use Rattle.sound.specs.Join.{Joined, Opened, next-ends, Before, before-of, lst-starts, open-flags, gap-here, prev-ends, join-here, join-prev}
 use Rattle.fields.specs.Follow.{Ok, Has, Gave, Does}
 use Rattle.fields.specs.FollowLaws.{gave-by, gave-then, gave-ok}
-use Rattle.joins.specs.Reads.{Reads, reads, loose-reads}
+use Rattle.joins.specs.Reads.{Reads, loose-reads}
 use Rattle.joins.specs.States.{Taking, Open, joinRest}
 use Rattle.joins.specs.Parts.{home-of}
 
