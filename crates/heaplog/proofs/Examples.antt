@@ -15,7 +15,7 @@ use Rattle.machine.specs.Audit.{tileFault, goodFrom, listFault, flagFault, audi
 use Rattle.machine.specs.Calls.{auditCall, closedRecord, openCall, grantCall, releaseCall, settleCall}
 use Rattle.machine.proofs.Script.{same?}
 use Rattle.script.specs.Grammar.{digitsFrom, numberOf, lineOf}
-use Rattle.script.specs.Format.{decimal, field, callText, questionText}
+use Rattle.script_format.specs.Format.{decimal, field, callText, questionText}
 use Rattle.heaplog.specs.Run.{run, called, placedStep, lineStep}
 use Rattle.heaplog.specs.Script.{linesFrom, printed}
 

@@ -12,7 +12,7 @@ use Rattle.machine.specs.Calls.{After, after}
 use Rattle.machine.specs.declared.Answer.{Answer}
 use Rattle.script.specs.Rules.{inPlace?, letterOf, first?}
 use Rattle.script.specs.Grammar.{lineOf}
-use Rattle.script.specs.Format.{answerText, questionText}
+use Rattle.script_format.specs.Format.{answerText, questionText}
 use Rattle.script.specs.declared.Line.{Line}
 use Rattle.script.specs.declared.Line.the-variants.{Open, Grant, Release, Settle, Other}
 use Rattle.heaplog.specs.Run.{run, Step, step, callOf, called, lengthOf, endsBy?, topAfter, ranStep, counted, placedStep, lineStep, byteStep, endStep}

@@ -11,7 +11,7 @@ use Rattle.machine.specs.declared.Answer.{Answer}
 use Rattle.machine.specs.declared.Answer.the-variants.{Done, Granted, Refused}
 use Rattle.script.specs.Grammar.{lineOf, kept, keptBytes}
 use Rattle.script.specs.Rules.{inPlace?, letterOf}
-use Rattle.script.specs.Format.{newline, answerText, questionText}
+use Rattle.script_format.specs.Format.{newline, answerText, questionText}
 use Rattle.script.specs.declared.Line.{Line}
 use Rattle.script.specs.declared.Line.the-variants.{Open, Grant, Release, Settle, Other}
 use Rattle.heaplog.specs.declared.Log.{Log}

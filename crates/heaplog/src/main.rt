@@ -65,7 +65,7 @@ fn main() {
     let mut control = [0u8; 1572];
     let mut out = [0u8; 86];
     let mut log = Log {
-        text: script::no_bytes(),
+        text: script_reader::no_bytes(),
         lines: 0,
         opened: 0,
         ended: false,

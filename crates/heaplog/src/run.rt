@@ -111,8 +111,8 @@ fn run_placed(
     let ended = ends_by(line, x);
     let top = top_after(ended, control);
     let letter = script::letter_of(line);
-    let printed = script::put_answer(out, letter, x, top);
-    let text = script::no_bytes();
+    let printed = script_format::put_answer(out, letter, x, top);
+    let text = script_reader::no_bytes();
     Log {
         text,
         lines: k,
@@ -133,13 +133,13 @@ fn run_line(log: Log, arena: &mut [u8], control: &mut [u8], out: &mut [u8]) -> L
     let k = count(log.lines);
     let opened = log.opened;
     let read = log.text;
-    let line = script::line_read(read);
+    let line = script_reader::line_read(read);
     if script::in_place(k, line) {
         let n = length_of(line, opened);
         return run_placed(k, n, line, arena, control, out);
     }
-    let printed = script::put_question(out, k);
-    let text = script::no_bytes();
+    let printed = script_format::put_question(out, k);
+    let text = script_reader::no_bytes();
     Log {
         text,
         lines: k,
@@ -171,7 +171,7 @@ pub fn feed(log: Log, b: u8, arena: &mut [u8], control: &mut [u8], out: &mut [u8
     if b == b'\n' {
         return run_line(log, arena, control, out);
     }
-    let text = script::feed(read, b);
+    let text = script_reader::feed(read, b);
     Log {
         text,
         lines: log.lines,
