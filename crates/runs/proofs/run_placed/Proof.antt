@@ -1,8 +1,8 @@
--- `heaplog::run::run_placed` meets its contract: call, end, top and text are those of the step, one by one. Assumes nothing.
+-- `runs::run_placed` meets its contract: call, end, top and text are those of the step, one by one. Assumes nothing.
 use borrow.Author.Needs.{needs}
-use Rattle.heaplog.proofs.Steps.{ran}
-use Rattle.heaplog.proofs.run.run_placed.Statement.{statement}
-use Rattle.heaplog.proofs.run.run_placed.Tie as tie
+use Rattle.runs.proofs.Steps.{ran}
+use Rattle.runs.proofs.run_placed.Statement.{statement}
+use Rattle.runs.proofs.run_placed.Tie as tie
 
 call-within-requires : tie.Need-call-within-requires
 call-within-requires c κs = search needs

@@ -1,10 +1,10 @@
--- `heaplog::run::call_within` meets its contract: the call is made on the first part, and the rest of the bytes stays. Assumes nothing.
+-- `runs::call_within` meets its contract: the call is made on the first part, and the rest of the bytes stays. Assumes nothing.
 use native.Mathlib.Omega.{arith}
 use lib.ListN.{length-take}
 use borrow.Author.Needs.{needs}
-use Rattle.heaplog.proofs.Steps.{within}
-use Rattle.heaplog.proofs.run.call_within.Statement.{statement}
-use Rattle.heaplog.proofs.run.call_within.Tie as tie
+use Rattle.runs.proofs.Steps.{within}
+use Rattle.runs.proofs.call_within.Statement.{statement}
+use Rattle.runs.proofs.call_within.Tie as tie
 
 slice-relend-prefix-call : tie.Need-slice-relend-prefix-call
 slice-relend-prefix-call c = search needs

@@ -1,9 +1,9 @@
--- `heaplog::run::run_line` meets its contract: a line in its place is run; any other prints its number. Assumes nothing.
+-- `runs::run_line` meets its contract: a line in its place is run; any other prints its number. Assumes nothing.
 use mathlib.Core.Path.{sym, _∙_}
 use borrow.Author.Needs.{needs}
-use Rattle.heaplog.proofs.Steps.{placed, questioned, opened-fits}
-use Rattle.heaplog.proofs.run.run_line.Statement.{statement}
-use Rattle.heaplog.proofs.run.run_line.Tie as tie
+use Rattle.runs.proofs.Steps.{placed, questioned, opened-fits}
+use Rattle.runs.proofs.run_line.Statement.{statement}
+use Rattle.runs.proofs.run_line.Tie as tie
 
 count-requires : tie.Need-count-requires
 count-requires c κs = search needs

@@ -1,7 +1,7 @@
--- `heaplog::run::top_after` meets its contract: word 1 of the record, or 0. Assumes nothing.
+-- `runs::top_after` meets its contract: word 1 of the record, or 0. Assumes nothing.
 use borrow.Author.Needs.{needs}
-use Rattle.heaplog.proofs.run.top_after.Statement.{statement}
-use Rattle.heaplog.proofs.run.top_after.Tie as tie
+use Rattle.runs.proofs.top_after.Statement.{statement}
+use Rattle.runs.proofs.top_after.Tie as tie
 
 returns : tie.Need-returns
 returns c = search needs

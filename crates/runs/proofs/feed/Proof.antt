@@ -1,8 +1,8 @@
--- `heaplog::run::feed` meets its contract: a step for each of the three: the run has ended, a newline, another byte. Assumes nothing.
+-- `runs::feed` meets its contract: a step for each of the three: the run has ended, a newline, another byte. Assumes nothing.
 use borrow.Author.Needs.{needs}
-use Rattle.heaplog.proofs.Steps.{byte-ended, byte-newline, byte-other}
-use Rattle.heaplog.proofs.run.feed.Statement.{statement}
-use Rattle.heaplog.proofs.run.feed.Tie as tie
+use Rattle.runs.proofs.Steps.{byte-ended, byte-newline, byte-other}
+use Rattle.runs.proofs.feed.Statement.{statement}
+use Rattle.runs.proofs.feed.Tie as tie
 
 returns : tie.Need-returns
 returns c = (byte-ended _ _ _ _ _ _ _ (c .if1 .taken), record { opens = c .before .before .before .before .before .pre .1; prints = search needs })

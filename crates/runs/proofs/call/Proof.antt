@@ -1,7 +1,7 @@
--- `heaplog::run::call` meets its contract: a case for each form of a line; each is the call of that name. Assumes nothing.
+-- `runs::call` meets its contract: a case for each form of a line; each is the call of that name. Assumes nothing.
 use borrow.Author.Needs.{needs}
-use Rattle.heaplog.proofs.run.call.Statement.{statement}
-use Rattle.heaplog.proofs.run.call.Tie as tie
+use Rattle.runs.proofs.call.Statement.{statement}
+use Rattle.runs.proofs.call.Tie as tie
 
 enum-told : tie.Need-enum-told
 enum-told c = search needs

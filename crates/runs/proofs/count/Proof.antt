@@ -1,8 +1,8 @@
--- `heaplog::run::count` meets its contract: one more, or the largest number. Assumes nothing.
+-- `runs::count` meets its contract: one more, or the largest number. Assumes nothing.
 use borrow.Author.Needs.{needs}
-use Rattle.heaplog.proofs.Steps.{count-more, count-most}
-use Rattle.heaplog.proofs.run.count.Statement.{statement}
-use Rattle.heaplog.proofs.run.count.Tie as tie
+use Rattle.runs.proofs.Steps.{count-more, count-most}
+use Rattle.runs.proofs.count.Statement.{statement}
+use Rattle.runs.proofs.count.Tie as tie
 
 add-result : tie.Need-add-result
 add-result c = search needs

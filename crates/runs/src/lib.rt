@@ -3,10 +3,20 @@ ghost use mathlib.Core.Path.{_≡_};
 ghost use Prim.Native.Nat.{_+_, _≤_};
 ghost use lib.ListN.{length, take};
 ghost use Rattle.machine.specs.Calls.{after};
-ghost use Rattle.heaplog.specs.Run.{step, callOf, called, lengthOf, refused?, endsBy?, topAfter, counted, ranStep, lineStep, byteStep, endStep, runOf, Lent, Within};
-use crate::Log;
+ghost use Rattle.runs.specs.Run.{step, callOf, called, lengthOf, refused?, endsBy?, topAfter, counted, ranStep, lineStep, byteStep, endStep, runOf, Lent, Within};
 use machine::Answer;
 use script::Line;
+use script::LineText;
+
+// A run between two bytes: the line that is being read, how many lines were run, how long the opened arena is, whether the run has ended, and how many
+// bytes of the output buffer the last step printed.
+pub struct Log {
+    pub text: LineText,
+    pub lines: u64,
+    pub opened: usize,
+    pub ended: bool,
+    pub printed: usize,
+}
 
 // The call of a line, on the arena that it opens or that was opened.
 fn call(arena: &mut [u8], control: &mut [u8], line: Line) -> Answer

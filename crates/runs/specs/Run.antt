@@ -11,10 +11,10 @@ use Rattle.machine.specs.declared.Answer.{Answer}
 use Rattle.machine.specs.declared.Answer.the-variants.{Done, Granted, Refused}
 use Rattle.script.specs.Grammar.{lineOf, kept, keptBytes}
 use Rattle.script.specs.Rules.{inPlace?, letterOf}
-use Rattle.script_format.specs.Format.{newline, answerText, questionText}
 use Rattle.script.specs.declared.Line.{Line}
 use Rattle.script.specs.declared.Line.the-variants.{Open, Grant, Release, Settle, Other}
-use Rattle.heaplog.specs.declared.Log.{Log}
+use Rattle.script_format.specs.Format.{newline, answerText, questionText}
+use Rattle.runs.specs.declared.Log.{Log}
 
 -- the bytes that are lent, of which the opened arena is the first part; the record; the line that is being read; how many lines were run, how long the
 -- opened arena is, and whether the run has ended

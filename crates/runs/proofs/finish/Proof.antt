@@ -1,11 +1,11 @@
--- `heaplog::run::finish` meets its contract: a step for each of the three: the run has ended, no byte is kept, a last line. Assumes nothing.
+-- `runs::finish` meets its contract: a step for each of the three: the run has ended, no byte is kept, a last line. Assumes nothing.
 use mathlib.Core.Path.{_≡_}
 use native.Mathlib.Omega.{arith}
 use lib.ListN.{length, length-take}
 use borrow.Author.Needs.{needs}
-use Rattle.heaplog.proofs.Steps.{end-ended, end-none, end-line}
-use Rattle.heaplog.proofs.run.finish.Statement.{statement}
-use Rattle.heaplog.proofs.run.finish.Tie as tie
+use Rattle.runs.proofs.Steps.{end-ended, end-none, end-line}
+use Rattle.runs.proofs.finish.Statement.{statement}
+use Rattle.runs.proofs.finish.Tie as tie
 
 returns : tie.Need-returns
 returns c = (end-ended _ _ _ _ _ _ (c .if1 .taken), record { opens = c .before .before .before .before .before .pre .1; prints = search needs })
