@@ -1,22 +1,10 @@
-// heaplog: runs a script of calls from standard input and prints a line for each. Reading and writing stand here; what a byte does stands in run.rt.
+// heaplog: runs a script of calls from standard input and prints a line for each. Reading and writing stand here; what a byte does stands in `runs`.
 // Assumes nothing of its own: what io's reads and writes assume, libc says.
-mod run; // run.rt: a line, a byte, the end of the script
-
 ghost use Prim.Native.Nat.{_≤_};
-ghost use Rattle.heaplog.specs.Run.{Lent};
+ghost use Rattle.runs.specs.Run.{Lent};
 use libc::STDIN_FILENO;
 use libc::STDOUT_FILENO;
-use script::LineText;
-
-// A run between two bytes: the line that is being read, how many lines were run, how long the opened arena is, whether the run has ended, and how many
-// bytes of the output buffer the last step printed.
-pub struct Log {
-    pub text: LineText,
-    pub lines: u64,
-    pub opened: usize,
-    pub ended: bool,
-    pub printed: usize,
-}
+use runs::Log;
 
 // Feeds the bytes of a piece, and writes what each step prints.
 fn feed_piece(
@@ -32,7 +20,7 @@ fn feed_piece(
 {
     let mut i = 0;
     while i < piece.len() {
-        log = run::feed(log, piece[i], arena, control, out);
+        log = runs::feed(log, piece[i], arena, control, out);
         let n = log.printed;
         io::write_all(STDOUT_FILENO, &out[..n]);
         i += 1;
@@ -50,7 +38,7 @@ fn turn(log: Log, arena: &mut [u8], control: &mut [u8], out: &mut [u8]) -> Log
     let got = libc::read(STDIN_FILENO, &mut buf);
     let n = io::count(got, &buf);
     if n == 0 {
-        let mut last = run::finish(log, arena, control, out);
+        let mut last = runs::finish(log, arena, control, out);
         let k = last.printed;
         io::write_all(STDOUT_FILENO, &out[..k]);
         last.ended = true;
@@ -65,7 +53,7 @@ fn main() {
     let mut control = [0u8; 1572];
     let mut out = [0u8; 86];
     let mut log = Log {
-        text: script::no_bytes(),
+        text: script_reader::no_bytes(),
         lines: 0,
         opened: 0,
         ended: false,

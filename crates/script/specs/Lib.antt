@@ -1,4 +1,2 @@
 pub mod Grammar
-pub mod GrammarLaws
 pub mod Rules
-pub mod Format

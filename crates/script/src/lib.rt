@@ -1,15 +1,7 @@
-// The script that heaplog reads and the text that it prints: a line from its bytes, whether it is in place, and an answer as a line of text.
-// Grammar and format stand in specs/. Assumes nothing.
-mod reader; // reader.rt: bytes to a line
+// A line of a script for heaplog: its forms, what its bytes spell, and where it may stand. The grammar stands in specs/; script_reader reads it,
+// script_format has the text that is printed. Assumes nothing.
 mod rules; // rules.rt: which line may stand where
-mod format; // format.rt: an answer as text
 
-pub use format::put_answer;
-pub use format::put_question;
-pub use reader::feed;
-pub use reader::line_of;
-pub use reader::line_read;
-pub use reader::no_bytes;
 pub use rules::MOST_OPENED;
 pub use rules::in_place;
 pub use rules::letter_of;

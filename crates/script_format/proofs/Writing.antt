@@ -1,0 +1,39 @@
+-- What writing a line of text has to know: the digits of a number one by one, and texts one after the other. Assumes nothing.
+use mathlib.Core.Path.{_≡_, refl, ap, _∙_}
+use mathlib.Core.List.{List, [], _∷_, _++_, append-assoc, append-nil}
+use Prim.Native.Nat.{ℕ, zero, suc, _+_, _-_, _/_, _%_, _≤_, _<_}
+use native.Mathlib.Omega.{arith}
+use borrow.Author.Tests.{lt-ltb, le-ltb}
+use Rattle.machine.specs.declared.HeapAnswer.{HeapAnswer}
+use Rattle.script_format.specs.Format.{decimal, field, callText, questionText}
+
+pub no-digit : (p : List ℕ) (k n : ℕ) → k ≡ 0 → p ≡ p ++ decimal k n
+unfolding decimal
+no-digit p k n h = rw (h, append-nil)
+
+pub one-digit : (p : List ℕ) (k n : ℕ) {x : List ℕ} {d : ℕ} → (k ≡ 0 → ⊥) → n < 10 → d ≡ 48 + n → x ≡ p ++ (d ∷ []) → x ≡ p ++ decimal k n
+unfolding decimal
+one-digit p zero n z h e q = absurd (z refl)
+one-digit p (suc k) n z h e q = rw (decimal, lt-ltb n 10 h) (q ∙ rw e)
+
+pub more-digits : (p : List ℕ) (k n : ℕ) {x y : List ℕ} {d : ℕ} → (k ≡ 0 → ⊥) → 10 ≤ n → y ≡ p ++ decimal (k - 1) (n / 10) → d ≡ 48 + n % 10 → x ≡ y ++ (d ∷ [])
+    → x ≡ p ++ decimal k n
+unfolding decimal
+more-digits p zero n z h s e q = absurd (z refl)
+more-digits p (suc k) n z h s e q = let m : suc k - 1 ≡ k = omega arith in rw (decimal, le-ltb n 10 h) (q ∙ rw (s, e, m, append-assoc))
+
+pub field-written : (p : List ℕ) (n : ℕ) {x y : List ℕ} → x ≡ p ++ (32 ∷ []) → y ≡ x ++ decimal 20 n → y ≡ p ++ field n
+unfolding field
+field-written p n s q = q ∙ rw (s, append-assoc)
+
+pub question-written : (k : ℕ) {x y z : List ℕ} → x ≡ 63 ∷ [] → y ≡ x ++ field k → z ≡ y ++ (10 ∷ []) → z ≡ questionText k
+unfolding questionText
+question-written k p q r = r ∙ rw (q, p)
+
+joined : (a b c d e : List ℕ) → (((a ++ b) ++ c) ++ d) ++ e ≡ a ++ (b ++ (c ++ (d ++ e)))
+joined a b c d e = simp append-assoc
+
+pub call-written : (letter top : ℕ) (w : HeapAnswer) {v : HeapAnswer} {x0 x1 x2 x3 x4 x5 : List ℕ} → v ≡ w → x0 ≡ letter ∷ [] → x1 ≡ x0 ++ field (v .no)
+    → x2 ≡ x1 ++ field (v .mem) → x3 ≡ x2 ++ field (v .usable) → x4 ≡ x3 ++ field top → x5 ≡ x4 ++ (10 ∷ []) → x5 ≡ callText letter w top
+unfolding callText
+call-written letter top w e e0 e1 e2 e3 e4 e5 = e5 ∙ rw (e4, e3, e2, e1, e0, e) (ap (λ (l : List ℕ). letter ∷ l) (joined (field (w .no)) (field (w .mem)) (field (w .usable)) (field top) (10 ∷ [])))
