@@ -8,4 +8,3 @@ pub mod Done
 pub mod MarkLaws
 pub mod ListTurn
 pub mod Whole
-pub mod Looks

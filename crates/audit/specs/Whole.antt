@@ -6,7 +6,7 @@ use mathlib.Core.Bool.{Bool, true, false}
 use Prim.Native.Nat.{ℕ, zero, suc, _+_, _*_, _≤_}
 use native.Mathlib.Omega.{arith}
 use lib.Dec.{eqb, ltb}
-use lib.ListN.{length, getD, replicate, length-replicate}
+use lib.ListN.{length, getD}
 use borrow.Author.Tests.{eq-eqb, ne-eqb, lt-ltb, ltb-true}
 use Rattle.sizes.specs.Layout.{lengthWord, topWord}
 use Rattle.machine.specs.Lists.{both, cnt, cntAll}
@@ -19,7 +19,7 @@ use Rattle.sound.specs.Tiles.{starts-once}
 use Rattle.audit_lists.specs.Listed.{unmet}
 use Rattle.audit_walks.specs.Tests.{not-sound, first-fault}
 use Rattle.audit_walks.specs.Tiles.{tiles-sound, few}
-use Rattle.audit_walks.specs.Marks.{ArenaBytes, Bytes, Clear, TilesDone, Flagging, FlagsDone, startsOf}
+use Rattle.audit_walks.specs.Marks.{Bytes, TilesDone, Flagging, FlagsDone, startsOf}
 use Rattle.audit.specs.Lists.{minusAll}
 use Rattle.audit.specs.Spelled.{listsOf, view-lists, total-lists, binned-later, listsOf-sound}
 use Rattle.audit.specs.Done.{ListsDone, AuditDone, binnedOf}
@@ -98,14 +98,6 @@ module _ (w r : List ℕ) where
     live = λ _. live-marks t l m m′ d z k y;
   }
 
--- ---- marks that were cleared
-clear-zeros : (n i : ℕ) → getD {A = ℕ} (replicate n 0) i 0 ≡ 0
-clear-zeros zero i = refl
-clear-zeros (suc n) zero = refl
-clear-zeros (suc n) (suc i) = clear-zeros n i
-
+-- ---- marks that were written
 pub bytes-kept : (a m m′ : List ℕ) → length m′ ≡ length m → Bytes a m → Bytes a m′
 bytes-kept a m m′ e b = record { arena = b .arena; room = omega (arith, b .room) }
-
-pub zeros-ask : (n : ℕ) (a r : List ℕ) → ArenaBytes a → length a ≤ 16 * n → length r ≡ 393 → Bytes a (replicate n 0) × (length r ≡ 393) × Clear (replicate n 0)
-zeros-ask n a r b h e = (record { arena = b; room = omega (arith, length-replicate {A = ℕ} n 0) }, e, λ i. clear-zeros n i)

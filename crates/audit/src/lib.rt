@@ -1,20 +1,17 @@
 // The audit: sound, or the first fault of arena and record, in the order record, tiles, lists, flags. Linear in the arena: each tile is read twice, each
-// chunk of a list once. The walks over the tiles stand in the crate audit_walks. Assumes nothing.
+// chunk of a list once. The walks over the tiles stand in the crate audit_walks, the marks in the crate looks.
+// Assumes nothing.
 mod lists; // lists.rt: the nested loop over lists and chunks
-mod look; // look.rt: what a call finds before it writes
 
-pub use look::Look;
-pub use look::look_at;
 ghost use mathlib.Core.Path.{_≡_};
 ghost use lib.ListN.{length};
 ghost use Rattle.le.specs.Arena.{arenaWords};
-ghost use Rattle.machine.specs.Audit.{auditOf};
-ghost use Rattle.audit_walks.specs.Marks.{ArenaBytes, Bytes, Clear};
+ghost use Rattle.audit_walks.specs.Marks.{Bytes, Clear};
 ghost use Rattle.audit.specs.Done.{AuditDone};
 use machine::Audited;
 
 // The marks m, all 0 and one for each 16 bytes of arena, are lent: in a sound heap they are then 1 exactly at the live blocks.
-fn audit_marks(a: &[u8], r: &[u32], m: &mut [u8]) -> Audited
+pub fn audit_marks(a: &[u8], r: &[u32], m: &mut [u8]) -> Audited
     requires { ⌜ Bytes (now a) (now m) × (length (now r) ≡ 393) × Clear (now m) ⌝ }
     ensures { λ f. ⌜ AuditDone (arenaWords (now (a .entry))) (now (r .entry)) f (now (m .exit)) ⌝ }
 {
@@ -31,16 +28,4 @@ fn audit_marks(a: &[u8], r: &[u32], m: &mut [u8]) -> Audited
         return l;
     }
     audit_walks::flag_fault(a, top, m)
-}
-
-// The answer does not depend on the block that a look asks about.
-pub fn audit_words(a: &[u8], r: &[u32]) -> Audited
-    requires { ⌜ ArenaBytes (now a) × (length (now r) ≡ 393) ⌝ }
-    ensures { λ f. ⌜ f ≡ auditOf (arenaWords (now (a .entry))) (now (r .entry)) ⌝ }
-{
-    match look::look_at(a, r, 0) {
-        Look::Faulty(f) => f,
-        Look::NotLive => Audited::Sound,
-        Look::Live => Audited::Sound,
-    }
 }

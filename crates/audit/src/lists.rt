@@ -34,7 +34,7 @@ pub fn list_fault(a: &[u8], r: &[u32], m: &mut [u8]) -> Audited
             }
             let at = c as usize;
             let s = audit_leaves::size_word(a, at).size();
-            if !audit_lists::fits(a, k, at, s, p, q, n) {
+            if !audit_fits::fits(a, k, at, s, p, q, n) {
                 fault = Audited::List(k);
                 break 'lists;
             }

@@ -1,15 +1,11 @@
--- What the audit's tests of one list speak of: marks, the place of a list's end, a chunk in its list. Definitions only.
-use mathlib.Core.Path.{_≡_}
+-- What the audit's tests of one list speak of: marks, the place of a list's end. Definitions only.
 use mathlib.Core.List.{List}
 use mathlib.Core.Bool.{Bool}
-use Prim.Native.Nat.{ℕ, _+_, _/_, _%_, _≤_}
+use Prim.Native.Nat.{ℕ, _/_, _%_}
 use lib.Dec.{eqb}
-use lib.ListN.{length, getD}
-use Rattle.le.specs.Arena.{arenaWords}
-use Rattle.sizes.specs.Limits.{none64}
+use lib.ListN.{getD}
 use Rattle.sizes.specs.Layout.{cacheCount, binLast}
 use Rattle.machine.specs.Lists.{both}
-use Rattle.machine.specs.View.{sizeAt}
 use Rattle.machine.specs.declared.ListKind.{ListKind}
 use Rattle.machine.specs.declared.ListKind.the-variants.{Cache, Fast, Bin}
 
@@ -27,10 +23,3 @@ abbrev pub tailWord : ListKind → ℕ
 tailWord (Cache k) = cacheCount k
 tailWord (Fast k) = 0
 tailWord (Bin j) = binLast j
-
--- c is within the arena and s its size; q is that of the chunk p before it
-pub record Stand (a : List ℕ) (c s p q : ℕ) : Type 0 where
-  pub even : c % 16 ≡ 0
-  pub inside : c + 32 ≤ length a
-  pub size : s ≡ sizeAt (arenaWords a) c
-  pub before : (p ≡ none64 → ⊥) → q ≡ sizeAt (arenaWords a) p

@@ -16,5 +16,5 @@ pub fn audit(arena: &[u8], control: &[u8]) -> Audited
     }
     let mut r = [0u32; 393];
     le::read_words(control, &mut r);
-    audit::audit_words(arena, &r)
+    looks::audit_words(arena, &r)
 }

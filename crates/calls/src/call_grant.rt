@@ -11,8 +11,8 @@ ghost use Rattle.machine.specs.Calls.{after, wordsOf, grantCall};
 ghost use Rattle.sound.specs.Relation.{Good};
 ghost use Rattle.fields.specs.Follow.{Has, Does};
 ghost use Rattle.calls.specs.Grants.{Stands};
-use cached::put_cache;
 use crate::shape::allowed;
+use cached::put_cache;
 use machine::Answer;
 use machine::Got;
 use machine::Refusal;
@@ -66,7 +66,7 @@ pub fn grant(arena: &mut [u8], control: &mut [u8], n: u64) -> Answer
         Needed::Size(b) => {
             let mut r = [0u32; 393];
             le::read_words(control, &mut r);
-            let f = audit::audit_words(arena, &r);
+            let f = looks::audit_words(arena, &r);
             if !machine::is_sound(f) {
                 return Answer::Refused(Refusal::Unsound);
             }

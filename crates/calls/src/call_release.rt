@@ -8,9 +8,9 @@ ghost use Rattle.machine.specs.Release.{release};
 ghost use Rattle.machine.specs.Calls.{after, wordsOf, releaseCall};
 ghost use Rattle.sound.specs.Relation.{Loose, Good};
 ghost use Rattle.fields.specs.Follow.{Has, Does};
-use cached::put_cache;
 use crate::shape::allowed;
-use audit::Look;
+use cached::put_cache;
+use looks::Look;
 use machine::Answer;
 use machine::Refusal;
 use sizes::CACHE_LISTS;
@@ -41,7 +41,7 @@ pub fn release(arena: &mut [u8], control: &mut [u8], mem: u64) -> Answer
     }
     let mut r = [0u32; 393];
     le::read_words(control, &mut r);
-    let l = audit::look_at(arena, &r, mem);
+    let l = looks::look_at(arena, &r, mem);
     match l {
         Look::Faulty(_) => {
             return Answer::Refused(Refusal::Unsound);

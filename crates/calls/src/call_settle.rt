@@ -17,7 +17,7 @@ pub fn settle(arena: &mut [u8], control: &mut [u8]) -> Answer
     }
     let mut r = [0u32; 393];
     le::read_words(control, &mut r);
-    let f = audit::audit_words(arena, &r);
+    let f = looks::audit_words(arena, &r);
     if !machine::is_sound(f) {
         return Answer::Refused(Refusal::Unsound);
     }

@@ -1,4 +1,4 @@
--- Byte by byte, keeping 10 bytes of a line, prints what line by line prints; and document 01's worked example. Assumes nothing.
+-- Byte by byte, keeping 10 bytes of a line, prints what line by line prints. Assumes nothing.
 use mathlib.Core.Path.{_≡_, refl, sym, ap, _∙_}
 use mathlib.Core.List.{List, [], _∷_, _++_}
 use mathlib.Core.Bool.{Bool, true, false}

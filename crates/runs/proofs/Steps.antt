@@ -10,12 +10,12 @@ use borrow.Author.Tests.{lt-ltb, le-ltb, leb-true, ne-eqb}
 use Rattle.machine.specs.Lists.{both}
 use Rattle.machine.specs.Calls.{After, after}
 use Rattle.machine.specs.declared.Answer.{Answer}
-use Rattle.script.specs.Rules.{inPlace?, letterOf, first?}
+use Rattle.script.specs.Rules.{inPlace?, letterOf, first?, endsBy?}
 use Rattle.script.specs.Grammar.{lineOf}
 use Rattle.script.specs.declared.Line.{Line}
 use Rattle.script.specs.declared.Line.the-variants.{Open, Grant, Release, Settle, Other}
 use Rattle.script_format.specs.Format.{answerText, questionText}
-use Rattle.runs.specs.Run.{run, Step, step, callOf, called, lengthOf, endsBy?, topAfter, ranStep, counted, placedStep, lineStep, byteStep, endStep}
+use Rattle.runs.specs.Run.{run, Step, step, callOf, called, lengthOf, topAfter, ranStep, counted, placedStep, lineStep, byteStep, endStep}
 
 pub within : (a r : List ℕ) (n : ℕ) (l : Line) {b s : List ℕ} {x : Answer} → after b s x ≡ callOf (take n a) r l → after (b ++ drop n a) s x ≡ called a r n l
 unfolding called

@@ -7,10 +7,9 @@ use lib.Dec.{eqb, ltb}
 use lib.ListN.{length, take, drop}
 use Rattle.le.specs.Number.{number}
 use Rattle.machine.specs.Calls.{After, after, openCall, grantCall, releaseCall, settleCall}
-use Rattle.machine.specs.declared.Answer.{Answer}
-use Rattle.machine.specs.declared.Answer.the-variants.{Done, Granted, Refused}
+use Rattle.machine.specs.declared.Answer.the-variants.{Done}
 use Rattle.script.specs.Grammar.{lineOf, kept, keptBytes}
-use Rattle.script.specs.Rules.{inPlace?, letterOf}
+use Rattle.script.specs.Rules.{inPlace?, letterOf, endsBy?}
 use Rattle.script.specs.declared.Line.{Line}
 use Rattle.script.specs.declared.Line.the-variants.{Open, Grant, Release, Settle, Other}
 use Rattle.script_format.specs.Format.{newline, answerText, questionText}
@@ -48,20 +47,8 @@ backIn a n (after b r x) = after (b ++ drop n a) r x
 unfoldable pub called : List ℕ → List ℕ → ℕ → Line → After
 called a r n l = backIn a n (callOf (take n a) r l)
 
--- ---- a line. A refused open prints top 0 and ends the run
-abbrev pub refused? : Answer → Bool
-refused? Done = false
-refused? (Granted m u) = false
-refused? (Refused x) = true
-
-abbrev pub endsBy? : Line → Answer → Bool
-endsBy? (Open n) x = refused? x
-endsBy? (Grant n) x = false
-endsBy? (Release n) x = false
-endsBy? Settle x = false
-endsBy? Other x = false
-
--- the record's word 1
+-- ---- a line
+-- the record's word 1; 0 where the line ended the run
 abbrev pub topAfter : Bool → List ℕ → ℕ
 topAfter e r = elim e [ true ↦ 0 | false ↦ number 4 r 4 ]
 

@@ -3,7 +3,7 @@ ghost use mathlib.Core.Path.{_≡_};
 ghost use Prim.Native.Nat.{_+_, _≤_};
 ghost use lib.ListN.{length, take};
 ghost use Rattle.machine.specs.Calls.{after};
-ghost use Rattle.runs.specs.Run.{step, callOf, called, lengthOf, refused?, endsBy?, topAfter, counted, ranStep, lineStep, byteStep, endStep, runOf, Lent, Within};
+ghost use Rattle.runs.specs.Run.{step, callOf, called, lengthOf, topAfter, counted, ranStep, lineStep, byteStep, endStep, runOf, Lent, Within};
 use machine::Answer;
 use script::Line;
 use script::LineText;
@@ -61,28 +61,6 @@ fn length_of(line: Line, opened: usize) -> usize
     }
 }
 
-fn is_refused(x: Answer) -> bool
-    ensures { λ t. ⌜ t ≡ refused? x ⌝ }
-{
-    match x {
-        Answer::Done => false,
-        Answer::Granted { mem: _, usable: _ } => false,
-        Answer::Refused(_) => true,
-    }
-}
-
-fn ends_by(line: Line, x: Answer) -> bool
-    ensures { λ t. ⌜ t ≡ endsBy? line x ⌝ }
-{
-    match line {
-        Line::Open(_) => is_refused(x),
-        Line::Grant(_) => false,
-        Line::Release(_) => false,
-        Line::Settle => false,
-        Line::Other => false,
-    }
-}
-
 fn top_after(ended: bool, control: &[u8]) -> u32
     requires { ⌜ 8 ≤ length (now control) ⌝ }
     ensures { λ t. ⌜ t ≡ topAfter ended (now (control .entry)) ⌝ }
@@ -118,7 +96,7 @@ fn run_placed(
     ensures { λ s. ⌜ Within s (now (out .exit)) ⌝ }
 {
     let x = call_within(arena, control, n, line);
-    let ended = ends_by(line, x);
+    let ended = script::ends_by(line, x);
     let top = top_after(ended, control);
     let letter = script::letter_of(line);
     let printed = script_format::put_answer(out, letter, x, top);

@@ -1,8 +1,11 @@
--- Which line may stand where: the first line opens, up to 49,152 bytes, and no other does; a line of another form stands nowhere. Definitions only.
-use mathlib.Core.Bool.{Bool, false, not}
+-- Which line may stand where: the first line opens, up to 49,152 bytes, and no other does; a line of another form stands nowhere; a refused
+-- open ends the run. Definitions only.
+use mathlib.Core.Bool.{Bool, true, false, not}
 use Prim.Native.Nat.{ℕ}
 use lib.Dec.{eqb, leb}
 use Rattle.machine.specs.Lists.{both}
+use Rattle.machine.specs.declared.Answer.{Answer}
+use Rattle.machine.specs.declared.Answer.the-variants.{Done, Granted, Refused}
 use Rattle.script.specs.Grammar.{letterA, letterG, letterR, letterS}
 use Rattle.script.specs.declared.Line.{Line}
 use Rattle.script.specs.declared.Line.the-variants.{Open, Grant, Release, Settle, Other}
@@ -30,3 +33,16 @@ letterOf (Grant n) = letterG
 letterOf (Release n) = letterR
 letterOf Settle = letterS
 letterOf Other = 63
+
+-- whether the run ends with this line and its answer
+abbrev pub refused? : Answer → Bool
+refused? Done = false
+refused? (Granted m u) = false
+refused? (Refused x) = true
+
+abbrev pub endsBy? : Line → Answer → Bool
+endsBy? (Open n) x = refused? x
+endsBy? (Grant n) x = false
+endsBy? (Release n) x = false
+endsBy? Settle x = false
+endsBy? Other x = false

@@ -1,8 +1,9 @@
 // A line of a script for heaplog: its forms, what its bytes spell, and where it may stand. The grammar stands in specs/; script_reader reads it,
 // script_format has the text that is printed. Assumes nothing.
-mod rules; // rules.rt: which line may stand where
+mod rules; // rules.rt: which line may stand where, and which one ends the run
 
 pub use rules::MOST_OPENED;
+pub use rules::ends_by;
 pub use rules::in_place;
 pub use rules::letter_of;
 

@@ -1,7 +1,8 @@
-// Which line may stand where in a script: A in the first line and nowhere else, and not above what heaplog has. Assumes nothing.
+// Which line may stand where in a script: A in the first line and nowhere else, and not above what heaplog has; and which one ends the run. Assumes nothing.
 ghost use mathlib.Core.Path.{_≡_};
-ghost use Rattle.script.specs.Rules.{inPlace?, letterOf};
+ghost use Rattle.script.specs.Rules.{inPlace?, letterOf, refused?, endsBy?};
 use crate::Line;
+use machine::Answer;
 
 // The longest arena that a script can open.
 pub const MOST_OPENED: u32 = 49152;
@@ -29,5 +30,28 @@ pub fn letter_of(line: Line) -> u8
         Line::Release(_) => b'R',
         Line::Settle => b'S',
         Line::Other => b'?',
+    }
+}
+
+fn is_refused(x: Answer) -> bool
+    ensures { λ t. ⌜ t ≡ refused? x ⌝ }
+{
+    match x {
+        Answer::Done => false,
+        Answer::Granted { mem: _, usable: _ } => false,
+        Answer::Refused(_) => true,
+    }
+}
+
+// A refused open ends the run.
+pub fn ends_by(line: Line, x: Answer) -> bool
+    ensures { λ t. ⌜ t ≡ endsBy? line x ⌝ }
+{
+    match line {
+        Line::Open(_) => is_refused(x),
+        Line::Grant(_) => false,
+        Line::Release(_) => false,
+        Line::Settle => false,
+        Line::Other => false,
     }
 }
