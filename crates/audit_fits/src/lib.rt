@@ -30,7 +30,7 @@ fn owns(j: u32, s: u64) -> bool
     if s < sizes::LARGE {
         return s / 16 == j as u64;
     }
-    sizes::large_bin(s) == j as u64
+    bins::large_bin(s) == j as u64
 }
 
 fn bin_fits(a: &[u8], j: u32, c: usize, s: u64, p: u64, q: u64) -> bool

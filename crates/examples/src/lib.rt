@@ -1,1 +1,1 @@
-// Document 01's examples, computed: no code, only theorems. specs/Bytes.antt: the calls on bytes; specs/Sample.antt: a run of calls. Assumes nothing.
+// Document 01's examples on bytes, computed: no code, only theorems. Assumes nothing.

@@ -73,7 +73,7 @@ pub fn step6(a: &mut [u8], r: &mut [u32], b: u64) -> Got
     if b < LARGE {
         return Got::Nothing;
     }
-    let c = least_fit(a, r, sizes::bin_of(b), b);
+    let c = least_fit(a, r, bins::bin_of(b), b);
     if c == NONE64 {
         return Got::Nothing;
     }
@@ -100,7 +100,7 @@ pub fn step7(a: &mut [u8], r: &mut [u32], b: u64) -> Got
     requires { ⌜ (b % 16 ≡ 0) × (32 ≤ b) × (b ≤ 262160) × Has Good (arenaWords (now a)) (now r) ⌝ }
     ensures { λ g. ⌜ Does Got Good (step7 b) (arenaWords (now (a .entry))) (now (r .entry)) g (arenaWords (now (a .exit))) (now (r .exit)) ⌝ }
 {
-    let j = first_bin(r, sizes::bin_of(b));
+    let j = first_bin(r, bins::bin_of(b));
     if j == 0 {
         return Got::Nothing;
     }

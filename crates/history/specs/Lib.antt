@@ -13,4 +13,3 @@ pub mod Lengths
 pub mod Emptied
 pub mod Theorem
 pub mod Spared
-pub mod Performed

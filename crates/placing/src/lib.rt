@@ -56,7 +56,7 @@ pub fn sort_in(a: &mut [u8], r: &mut [u32], c: u64, z: u64)
     requires { ⌜ Has (λ h. Loose h c × (sizeOf h c ≡ z)) (arenaWords (now a)) (now r) ⌝ }
     ensures { λ _. ⌜ Does (Unit {0}) (λ h. Loose h c × (sizeOf h c ≡ z)) (sortIn c) (arenaWords (now (a .entry))) (now (r .entry)) tt (arenaWords (now (a .exit))) (now (r .exit)) ⌝ }
 {
-    let j = sizes::bin_of(z);
+    let j = bins::bin_of(z);
     if z < LARGE {
         put_first(a, r, j, c);
         return;

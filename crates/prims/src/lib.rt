@@ -135,7 +135,7 @@ fn bin_by(q: u64, v: u32, c: u64, z: u64) -> usize
     if v as u64 == c {
         return UNSORTED;
     }
-    sizes::bin_of(z)
+    bins::bin_of(z)
 }
 
 // The same at the list's end: a chunk that is the first, of bin j, has the same bin as the last.

@@ -78,7 +78,7 @@ pub fn step2(a: &mut [u8], r: &mut [u32], b: u64) -> Got
 fn last_word(b: u64) -> usize
     ensures { λ at. ⌜ (at ≡ binLast (binOf b)) × (at ≤ 392) ⌝ }
 {
-    sizes::bin_last(sizes::bin_of(b))
+    sizes::bin_last(bins::bin_of(b))
 }
 
 // c, which the small bin of b has, leaves it, and the next chunk's P is set.

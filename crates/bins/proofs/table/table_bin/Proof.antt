@@ -2,8 +2,8 @@
 use mathlib.Core.Path.{_∙_}
 use native.Mathlib.Nat.{div-add-mod}
 use borrow.Author.Needs.{needs}
-use Rattle.sizes.proofs.table.table_bin.Statement.{statement}
-use Rattle.sizes.proofs.table.table_bin.Tie as tie
+use Rattle.bins.proofs.table.table_bin.Statement.{statement}
+use Rattle.bins.proofs.table.table_bin.Tie as tie
 
 row-bin-requires : tie.Need-row-bin-requires
 row-bin-requires c κs = search needs

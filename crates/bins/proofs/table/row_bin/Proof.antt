@@ -4,10 +4,10 @@ use Prim.Native.Nat.{ℕ, zero, suc, _+_, _*_, _≤_, _<_}
 use native.Mathlib.Omega.{arith}
 use lib.ListN.{getD}
 use borrow.Author.Needs.{needs}
 use Rattle.sizes.specs.Sizes.{largeBin, binOf}
-use Rattle.sizes.proofs.Filled.{filledFrom, getD-filledFrom}
-use Rattle.sizes.proofs.table.row_bin.Statement.{statement}
-use Rattle.sizes.proofs.table.row_bin.Tie as tie
+use Rattle.bins.proofs.Filled.{filledFrom, getD-filledFrom}
+use Rattle.bins.proofs.table.row_bin.Statement.{statement}
+use Rattle.bins.proofs.table.row_bin.Tie as tie
 
 -- entry j of the row that the rule fills, where i is known to be its number r
 row : {r i j : ℕ} → i ≡ r → j < 64 → getD (filledFrom (λ k. binOf (16 * k)) (64 * r) 64) j 0 ≡ binOf (16 * (64 * i + j))

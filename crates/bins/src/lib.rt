@@ -1,8 +1,9 @@
 // The bin of a chunk size: from the table below 16,384, by document 01's lines from there on. Assumes nothing.
-use crate::table;
+mod table; // table.rt: the bins of the sizes below 16,384
+
 ghost use mathlib.Core.Path.{_≡_};
 ghost use Prim.Native.Nat.{_≤_};
 ghost use Rattle.sizes.specs.Sizes.{largeBin, binOf};
 
 // The bin of a size of 1,024 or more: the first line that applies.
 pub fn large_bin(s: u64) -> u64

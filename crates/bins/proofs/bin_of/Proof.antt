@@ -2,9 +2,9 @@
 use mathlib.Core.Path.{sym, _∙_}
 use native.Mathlib.Omega.{arith}
 use borrow.Author.Needs.{needs}
 use Rattle.sizes.specs.BinLaws.{binOf-most, binOf-largeBin, binOf-round}
-use Rattle.sizes.proofs.bins.bin_of.Statement.{statement}
-use Rattle.sizes.proofs.bins.bin_of.Tie as tie
+use Rattle.bins.proofs.bin_of.Statement.{statement}
+use Rattle.bins.proofs.bin_of.Tie as tie
 
 table-bin-requires : tie.Need-table-bin-requires
 table-bin-requires c κs = search needs

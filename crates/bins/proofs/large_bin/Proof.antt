@@ -1,9 +1,9 @@
 -- `bins::large_bin` meets its contract: the tests that lead to a line open the definition at that line. Assumes nothing.
 use borrow.Author.Tests.{le-leb, lt-leb}
 use borrow.Author.Needs.{needs}
 use Rattle.sizes.specs.Sizes.{largeBin}
-use Rattle.sizes.proofs.bins.large_bin.Statement.{statement}
-use Rattle.sizes.proofs.bins.large_bin.Tie as tie
+use Rattle.bins.proofs.large_bin.Statement.{statement}
+use Rattle.bins.proofs.large_bin.Tie as tie
 
 add-result : tie.Need-add-result
 add-result c = search needs

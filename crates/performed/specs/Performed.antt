@@ -6,11 +6,11 @@ use Prim.Native.Nat.{ℕ}
 use lib.ListN.{length}
 use Rattle.machine.specs.Calls.{After, after, grantCall, releaseCall, settleCall}
 use Rattle.calls.specs.Results.{Lent}
 use Rattle.history.specs.Histories.{Event, Grant, Release, Settle, Store, Block, State, state, blocksIn, granted, released, settled, next, run, answerTo, answerOf, begin}
 use Rattle.history.specs.Demand3.{MendedAt, New}
 use Rattle.history.specs.Theorem.{demand3}
-use Rattle.history.specs.declared.Call.{Call}
-use Rattle.history.specs.declared.Call.the-variants as C
+use Rattle.performed.specs.declared.Call.{Call}
+use Rattle.performed.specs.declared.Call.the-variants as C
 
 -- a call of the code, as the machine's and as an event
 abbrev pub callOf : Call → List ℕ → List ℕ → After

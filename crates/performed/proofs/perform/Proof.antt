@@ -1,10 +1,10 @@
 -- `perform` is the machine's call: each kind by the proved call. Assumes nothing.
 use mathlib.Core.Path.{sym, ap, _∙_}
-use Rattle.history.specs.declared.Call.{Call}
-use Rattle.history.specs.Performed.{callOf}
+use Rattle.performed.specs.declared.Call.{Call}
+use Rattle.performed.specs.Performed.{callOf}
 use borrow.Author.Needs.{needs}
-use Rattle.history.proofs.perform.Statement.{statement}
-use Rattle.history.proofs.perform.Tie as tie
+use Rattle.performed.proofs.perform.Statement.{statement}
+use Rattle.performed.proofs.perform.Tie as tie
 
 enum-known-c : tie.Need-enum-known-c
 enum-known-c c = search needs

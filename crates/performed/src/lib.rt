@@ -1,0 +1,29 @@
+// A history's calls, by the proved calls. What a history of them comes to stands in specs/Performed.antt.
+// Assumes nothing.
+ghost use mathlib.Core.Path.{_≡_};
+ghost use Rattle.machine.specs.Calls.{after};
+ghost use Rattle.performed.specs.Performed.{callOf};
+use machine::Answer;
+
+// A call of a history, with its number.
+pub enum Call {
+    Grant(u64),
+    Release(u64),
+    Settle,
+}
+
+pub fn perform(arena: &mut [u8], control: &mut [u8], c: Call) -> Answer
+    ensures { λ x. ⌜ after (now (arena .exit)) (now (control .exit)) x ≡ callOf c (now (arena .entry)) (now (control .entry)) ⌝ }
+{
+    match c {
+        Call::Grant(n) => {
+            return calls::grant(arena, control, n);
+        }
+        Call::Release(m) => {
+            return calls::release(arena, control, m);
+        }
+        Call::Settle => {
+            return calls::settle(arena, control);
+        }
+    }
+}
