@@ -1,8 +1,9 @@
-// The bin of a chunk size: from the table below 16,384, by document 01's lines from there on. Assumes nothing.
+// The bin of a chunk size: from the table below 16,384, by document 01's lines from there on; and where its last stands in the record. Assumes nothing.
 mod table; // table.rt: the bins of the sizes below 16,384
 
 ghost use mathlib.Core.Path.{_≡_};
 ghost use Prim.Native.Nat.{_≤_};
+ghost use Rattle.sizes.specs.Layout.{binLast};
 ghost use Rattle.sizes.specs.Sizes.{largeBin, binOf};
 
 // The bin of a size of 1,024 or more: the first line that applies.
@@ -34,4 +35,11 @@ pub fn bin_of(s: u64) -> usize
         return table::table_bin((s / 16) as usize) as usize;
     }
     large_bin(s) as usize
+}
+
+// The record's word that has the last of the bin of b.
+pub fn last_word(b: u64) -> usize
+    ensures { λ at. ⌜ (at ≡ binLast (binOf b)) × (at ≤ 392) ⌝ }
+{
+    sizes::bin_last(bin_of(b))
 }

@@ -19,7 +19,6 @@ ghost use mathlib.Core.List.{List};
 ghost use Prim.Native.Nat.{ℕ, _%_, _≤_, _<_};
 ghost use lib.ListN.{length};
 ghost use Rattle.le.specs.Arena.{arenaWords};
-ghost use Rattle.sizes.specs.Layout.{binLast};
 ghost use Rattle.sizes.specs.Sizes.{binOf};
 ghost use Rattle.machine.specs.Heap.{Heap, anyFast?};
 ghost use Rattle.machine.specs.Grant.{step1, step2, takeLast, step3};
@@ -74,13 +73,6 @@ pub fn step2(a: &mut [u8], r: &mut [u32], b: u64) -> Got
     Got::At(c as u32)
 }
 
-// The record's word that has the last of the bin of b.
-fn last_word(b: u64) -> usize
-    ensures { λ at. ⌜ (at ≡ binLast (binOf b)) × (at ≤ 392) ⌝ }
-{
-    sizes::bin_last(bins::bin_of(b))
-}
-
 // c, which the small bin of b has, leaves it, and the next chunk's P is set.
 fn take_last(a: &mut [u8], r: &mut [u32], c: u64, b: u64)
     requires { ⌜ (b % 16 ≡ 0) × (32 ≤ b) × (b < 1024) × Has (λ h. Last h b c) (arenaWords (now a)) (now r) ⌝ }
@@ -95,7 +87,7 @@ fn move_lasts(a: &mut [u8], r: &mut [u32], b: u64)
     requires { ⌜ (b % 16 ≡ 0) × (32 ≤ b) × (b < 1024) × Has Good (arenaWords (now a)) (now r) ⌝ }
     ensures { λ _. ⌜ Does (Unit {0}) Good (moveRest b) (arenaWords (now (a .entry))) (now (r .entry)) tt (arenaWords (now (a .exit))) (now (r .exit)) ⌝ }
 {
-    let at = last_word(b);
+    let at = bins::last_word(b);
     let list = sizes::cache_list(b);
     while r[at] != NONE32 {
         if CACHE_ROOM <= r[CACHE_COUNTS + list] {
@@ -114,7 +106,7 @@ pub fn step3(a: &mut [u8], r: &mut [u32], b: u64) -> Got
     if LARGE <= b {
         return Got::Nothing;
     }
-    let c = r[last_word(b)];
+    let c = r[bins::last_word(b)];
     if c == NONE32 {
         return Got::Nothing;
     }

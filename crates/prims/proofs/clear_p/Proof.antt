@@ -1,4 +1,9 @@
 -- `prims::clear_p` meets its contract: the size word is written with the size that was read, then the note. Assumes nothing.
+use mathlib.Core.Path.{ap, _∙_}
+use mathlib.Core.List.{List}
+use Prim.Native.Nat.{ℕ}
+use Rattle.le.specs.Arena.{arenaWords}
+use Rattle.machine.specs.Writes.{size, note, put}
 use borrow.Author.Needs.{needs}
 use Rattle.prims.proofs.clear_p.Statement.{statement}
 use Rattle.prims.proofs.clear_p.Tie as tie
@@ -16,7 +21,12 @@ same-length : tie.Need-same-length
 same-length c = search needs
 
 returns : tie.Need-returns
-returns c = cc
+returns c =
+    let z = c .before .before .before .before .before .before .before .before in
+    let s = z .before .before .before .args in
+    c .before .before .set-note .ensures
+    ∙ ap (λ (w : List ℕ). put (note (s .n) (s .s)) w)
+    (c .before .before .before .before .before .before .set-size .ensures ∙ ap (λ (x : ℕ). put (size (s .n) x 0) (arenaWords (s .a .now))) (z .size-at .ensures))
 
 pub clear-p-spec : {M : Type 1} → statement M
 clear-p-spec =

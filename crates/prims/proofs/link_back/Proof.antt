@@ -1,5 +1,8 @@
 -- `prims::link_back` meets its contract: by the one test, and nothing is left of the other way. Assumes nothing.
-use mathlib.Core.Path.{sym, _∙_}
+use mathlib.Core.Path.{sym, ap, _∙_}
+use Prim.Native.Nat.{ℕ}
+use lib.ListN.{set}
+use Rattle.sizes.specs.Layout.{binLast}
 use native.Mathlib.Omega.{arith}
 use Rattle.prims.specs.Ends.{linkBack-none, linkBack-some, linkEnd-none, linkEnd-some}
 use borrow.Author.Needs.{needs}
@@ -24,8 +27,12 @@ same-length c = search needs
 returns : tie.Need-returns
 returns c =
     let i = c .before .before in
-    let s = i .before .before .before .args in
-    (sym (linkBack-none _ _ (s .x) (i .if1 .taken)), (cc (linkEnd-none (s .r .now) _ _ (s .x) (i .if1 .taken))))
+    let s = i .before .before .before .args in (
+      sym (linkBack-none _ _ (s .x) (i .if1 .taken)),
+      ap (λ (k : ℕ). set (s .r .now) k (c .word-of .result)) (c .before .bin-last .ensures)
+          ∙ ap (set (s .r .now) (binLast (s .j))) (c .word-of .ensures)
+          ∙ sym (linkEnd-none (s .r .now) _ _ (s .x) (i .if1 .taken)),
+    )
 
 set-back-requires : tie.Need-set-back-requires
 set-back-requires c κs = let l = c .before .before .before .before .pre .2 (c .before .if1 .left) in (omega arith, omega arith)

@@ -1,4 +1,8 @@
 -- `prims::set_p` meets its contract: the size word is written with the size that was read. Assumes nothing.
+use mathlib.Core.Path.{ap, _∙_}
+use Prim.Native.Nat.{ℕ}
+use Rattle.le.specs.Arena.{arenaWords}
+use Rattle.machine.specs.Writes.{size, put}
 use borrow.Author.Needs.{needs}
 use Rattle.prims.proofs.set_p.Statement.{statement}
 use Rattle.prims.proofs.set_p.Tie as tie
@@ -13,7 +17,10 @@ same-length : tie.Need-same-length
 same-length c = search needs
 
 returns : tie.Need-returns
-returns c = cc
+returns c =
+    let z = c .before .before .before .before in
+    let s = z .before .before .before .args in
+    c .before .before .set-size .ensures ∙ ap (λ (x : ℕ). put (size (s .n) x 1) (arenaWords (s .a .now))) (z .size-at .ensures)
 
 pub set-p-spec : {M : Type 1} → statement M
 set-p-spec = tie.close (tie.spec size-at-requires set-size-requires same-length returns)
