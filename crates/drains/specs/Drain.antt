@@ -9,7 +9,7 @@ use native.Mathlib.Omega.{arith}
 use lib.ListN.{length, getD}
 use lib.Seq.{getD-set-same}
 use borrow.Author.Tests.{ne-eqb}
-use Rattle.sizes.specs.Limits.{none32, none64}
+use Rattle.sizes.specs.Limits.{none64}
 use Rattle.sizes.specs.Layout.{fastHead}
 use Rattle.machine.specs.Lists.{hd, tl, some?, cnt}
 use Rattle.machine.specs.Count.{ind-same, cnt-here, cnt-there, cntAll-set, cnt-le-all, pigeons}
@@ -32,15 +32,6 @@ use Rattle.fields.specs.FollowLaws.{gave-ok}
 use Rattle.prims.specs.Chunks.{Chunks, up-hd}
 use Rattle.prims.specs.Stacks.{ok-stack, ok-fastHead}
 use Rattle.fields.specs.Reach.{Reach, Way, more-nil, then-more, way-here, reach-then, reach-end}
-
--- ---- a stack has a chunk or none, as its head in the record says
-pub list-none : (w l : List ℕ) → Chunks w l → hd none32 l ≡ none32 → l ≡ []
-list-none w [] k e = refl
-list-none w (x ∷ l) k e = absurd (omega (arith, k x (cnt-here x l) .small))
-
-pub list-some : (l : List ℕ) → (hd none32 l ≡ none32 → ⊥) → some? l ≡ true
-list-some [] n = absurd (n refl)
-list-some (x ∷ l) n = refl
 
 -- ---- a fast list's length, by the words
 abbrev pub left : List ℕ → List ℕ → ℕ → ℕ
@@ -76,12 +67,6 @@ module _ (h : Heap) (w r : List ℕ) (o : Ok h w r) where
       let l : List ℕ = stack h (fastAt k) in
       ap (λ (c : ℕ). length (chunksFrom (length w) w c)) (ap up (ok-fastHead h w r o k hk) ∙ up-hd w l (ok-stack h w r o (fastAt k)))
       ∙ ap length (chunks-chain (length w) w l (stack-short (fastAt k)) (ok-stack h w r o (fastAt k)) (o .mem .chains (fastAt k)))
-
-  pub fast-some : (k : ℕ) → k < 10 → (getD r (fastHead k) 0 ≡ none32 → ⊥) → some? (stack h (fastAt k)) ≡ true
-  fast-some k hk n = list-some (stack h (fastAt k)) (λ e. n (ok-fastHead h w r o k hk ∙ e))
-
-  pub fast-none : (k : ℕ) → k < 10 → getD r (fastHead k) 0 ≡ none32 → stack h (fastAt k) ≡ []
-  fast-none k hk e = list-none w (stack h (fastAt k)) (ok-stack h w r o (fastAt k)) (sym (ok-fastHead h w r o k hk) ∙ e)
 
 -- ---- the machine's drain, from the stack as it is: f is what is done with each chunk, and leaves the stacks of M as they are
 abbrev pub drainOf : (ℕ → Heap → Ran ℕ) → ℕ → Heap → Ran (Unit {0})

@@ -1,1 +1,3 @@
 pub mod Drain
+pub mod AnyFast
+pub mod Step4

@@ -1,15 +1,20 @@
-// Consolidate: each fast list emptied from its head, each chunk joined.
+// Consolidate: each fast list emptied from its head, each chunk joined. And step 4 of grant, which consolidates for a large request.
 use joins::join;
 use prims::take_fast;
 use sizes::FAST_HEADS;
 use sizes::FAST_LISTS;
+use sizes::LARGE;
 use sizes::NONE32;
-ghost use Prim.Native.Nat.{_<_};
+ghost use mathlib.Core.Path.{_≡_};
+ghost use mathlib.Core.List.{List};
+ghost use Prim.Native.Nat.{ℕ, _%_, _≤_, _<_};
+ghost use lib.ListN.{length};
 ghost use Rattle.le.specs.Arena.{arenaWords};
-ghost use Rattle.machine.specs.Heap.{fastAt};
+ghost use Rattle.machine.specs.Heap.{Heap, fastAt, anyFast?};
 ghost use Rattle.machine.specs.Release.{join, consolidate};
+ghost use Rattle.machine.specs.Grant.{step4};
 ghost use Rattle.sound.specs.Relation.{Good};
-ghost use Rattle.fields.specs.Follow.{Has, Does};
+ghost use Rattle.fields.specs.Follow.{Ok, Has, Does};
 ghost use Rattle.drains.specs.Drain.{drainOf};
 
 // Fast list k is emptied from its head, each chunk joined.
@@ -31,5 +36,31 @@ pub fn consolidate(a: &mut [u8], r: &mut [u32])
     while k < FAST_LISTS {
         drain_fast(a, r, k);
         k += 1;
+    }
+}
+
+pub fn any_fast(r: &[u32]) -> bool
+    requires { ⌜ length (now r) ≡ 393 ⌝ }
+    ensures { λ t. ⌜ ((h : Heap) (w : List ℕ) → Ok h w (now (r .entry)) → t ≡ anyFast? h) ⌝ }
+{
+    let mut k: usize = 0;
+    while k < FAST_LISTS {
+        if r[FAST_HEADS + k] != NONE32 {
+            return true;
+        }
+        k += 1;
+    }
+    false
+}
+
+pub fn step4(a: &mut [u8], r: &mut [u32], b: u64)
+    requires { ⌜ (b % 16 ≡ 0) × (32 ≤ b) × (b ≤ 262160) × Has Good (arenaWords (now a)) (now r) ⌝ }
+    ensures { λ _. ⌜ Does (Unit {0}) Good (step4 b) (arenaWords (now (a .entry))) (now (r .entry)) tt (arenaWords (now (a .exit))) (now (r .exit)) ⌝ }
+{
+    if b < LARGE {
+        return;
+    }
+    if any_fast(r) {
+        consolidate(a, r);
     }
 }

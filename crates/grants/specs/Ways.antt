@@ -1,11 +1,8 @@
 -- Each way through the chain of grant: the answers that led there, and the steps that were followed up to it. Assumes nothing.
 use mathlib.Core.Path.{_≡_, refl, sym, _∙_}
 use mathlib.Core.Bool.{Bool, true, false}
-use mathlib.Core.List.{List, []}
-use Prim.Native.Nat.{ℕ, _%_, _≤_, _<_}
-use lib.Dec.{leb}
-use borrow.Author.Tests.{le-leb, lt-leb}
-use Rattle.sizes.specs.Limits.{large}
+use mathlib.Core.List.{List}
+use Prim.Native.Nat.{ℕ, _%_, _≤_}
 use Rattle.machine.specs.Heap.{Heap, anyFast?}
 use Rattle.machine.specs.Writes.{does, nothing}
 use Rattle.machine.specs.Release.{consolidate}
@@ -17,24 +14,13 @@ use Rattle.sound.specs.Small.{step1-leaves, step2-leaves, step3-leaves, step4-l
 use Rattle.sound.specs.Sweep.{step5-leaves}
 use Rattle.sound.specs.Large.{step6-leaves, step7-leaves}
 use Rattle.sound.specs.Grant.{pass-leaves}
-use Rattle.fields.specs.Follow.{Ok, Does}
+use Rattle.fields.specs.Follow.{Does}
 use Rattle.fields.specs.FollowLaws.{gave-by, gave-none}
+use Rattle.drains.specs.Step4.{Told}
 use Rattle.grants.specs.Chain.{inTurn, else, Keeps, keeps-found, keeps-else, does-by, then, took, next}
 
 -- ---- the machine's equations
 module _ (b : ℕ) (h : Heap) where
-  step4-small : b < large → step4 b h ≡ does h []
-  unfolding step4
-  step4-small l = let t : leb large b ≡ false = lt-leb large b l in rw (t, step4)
-
-  step4-none : large ≤ b → anyFast? h ≡ false → step4 b h ≡ does h []
-  unfolding step4
-  step4-none l u = let t : leb large b ≡ true = le-leb large b l in rw (t, u, step4)
-
-  step4-some : large ≤ b → anyFast? h ≡ true → step4 b h ≡ consolidate h
-  unfolding step4
-  step4-some l u = let t : leb large b ≡ true = le-leb large b l in rw (t, u, step4)
-
   pass-is : pass b h ≡ else (else (else (step5 b) (step6 b)) (step7 b)) (step9 b) h
   unfolding pass else
   pass-is = refl
@@ -59,10 +45,6 @@ module _ (b : ℕ) (h : Heap) where
   unfolding grant else
   grant-is = refl
 
--- what the code's test of the fast lists says of a heap with this record
-abbrev pub Told : List ℕ → Bool → Type 0
-Told r t = (h : Heap) (w : List ℕ) → Ok h w r → t ≡ anyFast? h
-
 pub keeps-all : Keeps (Unit {0}) consolidate
 keeps-all = record { ends = λ h w g m. let L = consolidate-leaves h w g m in record { mem = L .mem; now = L .now .good } }
 
@@ -70,15 +52,6 @@ keeps-all = record { ends = λ h w g m. let L = consolidate-leaves h w g m in re
 module _ (b : ℕ) where
   pub keeps4 : Keeps (Unit {0}) (step4 b)
   keeps4 = record { ends = λ h w g m. let L = step4-leaves b h w g m in record { mem = L .mem; now = L .now .0 } }
-
-  pub small4 : (w r : List ℕ) → b < large → Does (Unit {0}) Good (step4 b) w r tt w r
-  small4 w r l = record { does = λ h o g. gave-by (step4-small b h l) (gave-none h tt w r (o .rec)) }
-
-  pub none4 : (w r : List ℕ) (t : Bool) → large ≤ b → Told r t → t ≡ false → Does (Unit {0}) Good (step4 b) w r tt w r
-  none4 w r t l f e = record { does = λ h o g. gave-by (step4-none b h l (sym (f h w o) ∙ e)) (gave-none h tt w r (o .rec)) }
-
-  pub some4 : (w r v q : List ℕ) (t : Bool) → large ≤ b → Told r t → t ≡ true → Does (Unit {0}) Good consolidate w r tt v q → Does (Unit {0}) Good (step4 b) w r tt v q
-  some4 w r v q t l f e d = record { does = λ h o g. gave-by (step4-some b h l (sym (f h w o) ∙ e)) (d .does h o g) }
 
 module _ (b : ℕ) (b16 : b % 16 ≡ 0) (b32 : 32 ≤ b) where
   pub keeps1 : Keeps Got (step1 b)

@@ -1,26 +1,14 @@
 // Grant behind the cache: document 01's steps 2 to 9 in their order, each where those before it found nothing.
+use drains::any_fast;
 use drains::consolidate;
+use drains::step4;
 use machine::Got;
-use sizes::LARGE;
-use takes::any_fast;
 ghost use mathlib.Core.Path.{_≡_};
 ghost use Prim.Native.Nat.{_%_, _≤_};
 ghost use Rattle.le.specs.Arena.{arenaWords};
-ghost use Rattle.machine.specs.Grant.{step4, pass, again, from4, seek};
+ghost use Rattle.machine.specs.Grant.{pass, again, from4, seek};
 ghost use Rattle.sound.specs.Relation.{Good};
 ghost use Rattle.fields.specs.Follow.{Has, Does};
-
-pub fn step4(a: &mut [u8], r: &mut [u32], b: u64)
-    requires { ⌜ (b % 16 ≡ 0) × (32 ≤ b) × (b ≤ 262160) × Has Good (arenaWords (now a)) (now r) ⌝ }
-    ensures { λ _. ⌜ Does (Unit {0}) Good (step4 b) (arenaWords (now (a .entry))) (now (r .entry)) tt (arenaWords (now (a .exit))) (now (r .exit)) ⌝ }
-{
-    if b < LARGE {
-        return;
-    }
-    if any_fast(r) {
-        consolidate(a, r);
-    }
-}
 
 // Steps 5 to 9 once.
 fn pass(a: &mut [u8], r: &mut [u32], b: u64) -> Got

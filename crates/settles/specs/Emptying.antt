@@ -1,13 +1,12 @@
 -- A cache list is emptied chunk by chunk, and the lists one after another, as the machine's emptying does it: by the laws of a drain.
 -- A cache list's length is its count in the record. Assumes nothing.
-use mathlib.Core.Path.{_≡_, sym, _∙_, subst}
+use mathlib.Core.Path.{_≡_, subst}
 use mathlib.Core.Bool.{true}
-use mathlib.Core.List.{List, []}
+use mathlib.Core.List.{List}
 use Prim.Native.Nat.{ℕ, suc, _+_, _-_, _≤_, _<_}
 use native.Mathlib.Omega.{arith}
 use lib.ListN.{getD}
-use Rattle.sizes.specs.Limits.{none32}
-use Rattle.sizes.specs.Layout.{cacheHead, cacheCount}
+use Rattle.sizes.specs.Layout.{cacheCount}
 use Rattle.machine.specs.Lists.{some?}
 use Rattle.machine.specs.Heap.{Heap, stack}
 use Rattle.machine.specs.Writes.{Ran}
@@ -17,18 +16,10 @@ use Rattle.machine.specs.declared.{Got.Got, Got.the-variants.At}
 use Rattle.sound.specs.Relation.{Loose, Good}
 use Rattle.sound.specs.Leaves.{Cached}
 use Rattle.sound.specs.Release.{releasePast-leaves}
-use Rattle.fields.specs.Follow.{Ok, Gave, Does}
-use Rattle.prims.specs.Stacks.{ok-stack, ok-cacheHead, ok-cacheCount}
+use Rattle.fields.specs.Follow.{Gave, Does}
+use Rattle.prims.specs.Stacks.{ok-cacheCount}
 use Rattle.fields.specs.Reach.{Reach, Way, way-here}
-use Rattle.drains.specs.Drain.{list-none, list-some, drainOf, drain-fewer, drains-next, drains-done}
-
--- ---- a cache list has a chunk or none, as its head in the record says
-module _ (h : Heap) (w r : List ℕ) (o : Ok h w r) where
-  pub cache-some : (k : ℕ) → k < 64 → (getD r (cacheHead k) 0 ≡ none32 → ⊥) → some? (stack h k) ≡ true
-  cache-some k hk n = list-some (stack h k) (λ e. n (ok-cacheHead h w r o k hk ∙ e))
-
-  pub cache-none : (k : ℕ) → k < 64 → getD r (cacheHead k) 0 ≡ none32 → stack h k ≡ []
-  cache-none k hk e = list-none w (stack h k) (ok-stack h w r o k) (sym (ok-cacheHead h w r o k hk) ∙ e)
+use Rattle.drains.specs.Drain.{drainOf, drain-fewer, drains-next, drains-done}
 
 -- ---- what falls with each turn: a cache list's count in the record
 pub cache-less : (k : ℕ) → k < 64

@@ -29,7 +29,8 @@ use Rattle.fields.specs.FollowLaws.{gave-then, gave-ok}
 use Rattle.prims.specs.Stacks.{ok-cacheCount, ok-stack}
 use Rattle.fields.specs.Reach.{Way, more-nil, reach-then, reach-end}
 use Rattle.takes.specs.Moves.{moveHeads}
-use Rattle.takes.specs.Tests.{at-same, fast-some, fast-empty}
+use Rattle.prims.specs.Heads.{fast-some, fast-empty}
+use Rattle.takes.specs.Tests.{at-same}
 
 some-cons : (l : List ℕ) (c : ℕ) → some? l ≡ true → hd none64 l ≡ c → l ≡ c ∷ tl l
 some-cons [] c e q = absurd (let z : _≡_ {A = ℕ} 0 1 = cc in omega arith)

@@ -3,4 +3,3 @@ pub mod Tests
 pub mod Heads
 pub mod Lasts
 pub mod Steps
-pub mod AnyFast

@@ -23,7 +23,8 @@ use Rattle.fields.specs.Follow.{Has, Does}
 use Rattle.fields.specs.FollowLaws.{gave-by, gave-none, gave-then, gave-giving, gave-ok, gave-good}
 use Rattle.prims.specs.Stacks.{ok-stack}
 use Rattle.takes.specs.Moves.{moveHeads, moveRest, Last}
-use Rattle.takes.specs.Tests.{at-same, some-head, cache-some, cache-empty, fast-some, fast-empty, bin-empty}
+use Rattle.prims.specs.Heads.{cache-some, cache-empty, fast-some, fast-empty}
+use Rattle.takes.specs.Tests.{at-same, some-head, bin-empty}
 use Rattle.takes.specs.Heads.{taken-ok, taken-good, taken-small}
 use Rattle.takes.specs.Lasts.{found, found-last, took-ends}
 

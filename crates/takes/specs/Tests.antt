@@ -1,30 +1,21 @@
--- What the record's words tell of a list: one that is none32 is the end of an empty list, any other of a list that has a chunk. By the chunks' offsets,
+-- What the last that the record has of a bin tells of the bin: none32 is that of an empty one, any other that of one with a chunk. By the chunks' offsets,
 -- which are small. Assumes nothing.
 use mathlib.Core.Path.{_≡_, refl, sym, ap, _∙_}
 use mathlib.Core.Bool.{true}
 use mathlib.Core.List.{List, [], _∷_}
-use Prim.Native.Nat.{ℕ, _≤_, _<_}
+use Prim.Native.Nat.{ℕ, _≤_}
 use native.Mathlib.Omega.{arith}
 use lib.ListN.{getD}
 use Rattle.sizes.specs.Limits.{none64, none32}
-use Rattle.sizes.specs.Layout.{cacheHead, fastHead, binLast}
+use Rattle.sizes.specs.Layout.{binLast}
 use Rattle.machine.specs.Lists.{hd, lst, some?, cnt}
 use Rattle.machine.specs.Count.{cnt-here}
-use Rattle.machine.specs.Heap.{Heap, stack, fastAt, bin}
+use Rattle.machine.specs.Heap.{Heap, bin}
 use Rattle.machine.specs.declared.{Got.Got, Got.the-variants.At}
 use Rattle.sound.specs.Lists.{lst-in}
 use Rattle.sound.specs.RecordOf.{record-binLast}
 use Rattle.fields.specs.Follow.{Ok}
 use Rattle.prims.specs.Chunks.{Chunks, bin-chunk}
-use Rattle.prims.specs.Stacks.{ok-stack, ok-cacheHead, ok-fastHead}
-
-hd-some : (l : List ℕ) → (hd none32 l ≡ none32 → ⊥) → some? l ≡ true
-hd-some [] n = absurd (n refl)
-hd-some (x ∷ l) n = refl
-
-hd-empty : (w l : List ℕ) → Chunks w l → hd none32 l ≡ none32 → l ≡ []
-hd-empty w [] k e = refl
-hd-empty w (x ∷ l) k e = absurd (omega (arith, k x (cnt-here x l) .small))
 
 lst-some : (l : List ℕ) → (lst none32 l ≡ none32 → ⊥) → (some? l ≡ true) × (lst none32 l ≡ lst none64 l)
 lst-some [] n = absurd (n refl)
@@ -42,18 +33,6 @@ some-head [] e = absurd (let z : _≡_ {A = ℕ} 0 1 = cc in omega arith)
 some-head (x ∷ l) e = cnt-here x l
 
 module _ (h : Heap) (w r : List ℕ) (o : Ok h w r) where
-  pub cache-some : (k : ℕ) → k < 64 → (getD r (cacheHead k) 0 ≡ none32 → ⊥) → some? (stack h k) ≡ true
-  cache-some k l n = hd-some (stack h k) (λ e. n (ok-cacheHead h w r o k l ∙ e))
-
-  pub cache-empty : (k : ℕ) → k < 64 → getD r (cacheHead k) 0 ≡ none32 → stack h k ≡ []
-  cache-empty k l e = hd-empty w (stack h k) (ok-stack h w r o k) (sym (ok-cacheHead h w r o k l) ∙ e)
-
-  pub fast-some : (k : ℕ) → k < 10 → (getD r (fastHead k) 0 ≡ none32 → ⊥) → some? (stack h (fastAt k)) ≡ true
-  fast-some k l n = hd-some (stack h (fastAt k)) (λ e. n (ok-fastHead h w r o k l ∙ e))
-
-  pub fast-empty : (k : ℕ) → k < 10 → getD r (fastHead k) 0 ≡ none32 → stack h (fastAt k) ≡ []
-  fast-empty k l e = hd-empty w (stack h (fastAt k)) (ok-stack h w r o (fastAt k)) (sym (ok-fastHead h w r o k l) ∙ e)
-
   ok-binLast : (j : ℕ) → 1 ≤ j → j ≤ 126 → getD r (binLast j) 0 ≡ lst none32 (bin h j)
   ok-binLast j l m = ap (λ (r : List ℕ). getD r (binLast j) 0) (o .rec) ∙ record-binLast h (o .shape .stacked74) (o .shape .binned127) j l m
 

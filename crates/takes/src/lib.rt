@@ -1,4 +1,4 @@
-// The steps of grant that take a chunk as it stands, 1 to 3. And whether some fast list has a chunk.
+// The steps of grant that take a chunk as it stands, 1 to 3.
 use machine::Got;
 use prims::push_cache;
 use prims::set_p;
@@ -9,21 +9,17 @@ use sizes::CACHE_COUNTS;
 use sizes::CACHE_HEADS;
 use sizes::CACHE_ROOM;
 use sizes::FAST_HEADS;
-use sizes::FAST_LISTS;
 use sizes::LARGE;
 use sizes::MOST_CACHED;
 use sizes::MOST_FAST;
 use sizes::NONE32;
 ghost use mathlib.Core.Path.{_≡_};
-ghost use mathlib.Core.List.{List};
-ghost use Prim.Native.Nat.{ℕ, _%_, _≤_, _<_};
-ghost use lib.ListN.{length};
+ghost use Prim.Native.Nat.{_%_, _≤_, _<_};
 ghost use Rattle.le.specs.Arena.{arenaWords};
 ghost use Rattle.sizes.specs.Sizes.{binOf};
-ghost use Rattle.machine.specs.Heap.{Heap, anyFast?};
 ghost use Rattle.machine.specs.Grant.{step1, step2, takeLast, step3};
 ghost use Rattle.sound.specs.Relation.{Good};
-ghost use Rattle.fields.specs.Follow.{Ok, Has, Does};
+ghost use Rattle.fields.specs.Follow.{Has, Does};
 ghost use Rattle.takes.specs.Moves.{moveHeads, moveRest, Last};
 
 pub fn step1(a: &mut [u8], r: &mut [u32], b: u64) -> Got
@@ -113,18 +109,4 @@ pub fn step3(a: &mut [u8], r: &mut [u32], b: u64) -> Got
     take_last(a, r, c as u64, b);
     move_lasts(a, r, b);
     Got::At(c)
-}
-
-pub fn any_fast(r: &[u32]) -> bool
-    requires { ⌜ length (now r) ≡ 393 ⌝ }
-    ensures { λ t. ⌜ ((h : Heap) (w : List ℕ) → Ok h w (now (r .entry)) → t ≡ anyFast? h) ⌝ }
-{
-    let mut k: usize = 0;
-    while k < FAST_LISTS {
-        if r[FAST_HEADS + k] != NONE32 {
-            return true;
-        }
-        k += 1;
-    }
-    false
 }

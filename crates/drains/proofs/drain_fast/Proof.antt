@@ -8,8 +8,9 @@ use Rattle.machine.specs.Heap.{fastAt}
 use Rattle.machine.specs.Release.{join}
 use Rattle.sound.specs.Release.{Every, join-leaves}
 use Rattle.prims.specs.Stacks.{ok-length}
+use Rattle.prims.specs.Heads.{fast-some, fast-empty}
 use Rattle.fields.specs.Reach.{Way, way-here}
-use Rattle.drains.specs.Drain.{left, drainOf, fast-some, fast-none, popped-has, drain-next, drain-done, fast-less}
+use Rattle.drains.specs.Drain.{left, drainOf, popped-has, drain-next, drain-done, fast-less}
 use Rattle.drains.proofs.drain_fast.Statement.{statement}
 use Rattle.drains.proofs.drain_fast.Tie as tie
 
@@ -90,7 +91,7 @@ returns c =
     record {
       does = λ h o g.
           let R = l .loop .inv .2 .reach h o g in
-          drain-done join Every join-leaves (fastAt (s .args .k)) (omega (arith, s .pre .0)) tt R (fast-none _ _ _ (R .ok) _ (s .pre .0) (c .if1 .left));
+          drain-done join Every join-leaves (fastAt (s .args .k)) (omega (arith, s .pre .0)) tt R (fast-empty _ _ _ (R .ok) _ (s .pre .0) (c .if1 .left));
     }
 
 pub drain-fast-spec : {M : Type 1} → statement M

@@ -9,9 +9,10 @@ use Rattle.machine.specs.Release.{releasePast}
 use Rattle.sound.specs.Leaves.{Cached}
 use Rattle.sound.specs.Release.{releasePast-leaves}
 use Rattle.prims.specs.Stacks.{ok-length}
+use Rattle.prims.specs.Heads.{cache-some, cache-empty}
 use Rattle.fields.specs.Reach.{Way, way-here}
 use Rattle.drains.specs.Drain.{drainOf, popped-has, drain-next, drain-done}
-use Rattle.settles.specs.Emptying.{cache-some, cache-none, cache-less}
+use Rattle.settles.specs.Emptying.{cache-less}
 use Rattle.settles.proofs.drain_cache.Statement.{statement}
 use Rattle.settles.proofs.drain_cache.Tie as tie
 
@@ -93,7 +94,7 @@ returns c =
       does = λ h o g.
           let R = l .loop .inv .2 .reach h o g in
           drain-done releasePast Cached releasePast-leaves (s .args .k) (omega (arith, s .pre .0)) (s .pre .0) R
-          (cache-none _ _ _ (R .ok) _ (s .pre .0) (c .if1 .left));
+          (cache-empty _ _ _ (R .ok) _ (s .pre .0) (c .if1 .left));
     }
 
 pub drain-cache-spec : {M : Type 1} → statement M

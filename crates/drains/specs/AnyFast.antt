@@ -11,7 +11,7 @@ use Rattle.sizes.specs.Layout.{fastHead}
 use Rattle.machine.specs.Lists.{either, some?, any?}
 use Rattle.machine.specs.Heap.{Heap, fastAt, anyFast?}
 use Rattle.fields.specs.Follow.{Ok}
-use Rattle.takes.specs.Tests.{fast-some, fast-empty}
+use Rattle.prims.specs.Heads.{fast-some, fast-empty}
 
 abbrev pub From : List ℕ → ℕ → Type 0
 From r k = (h : Heap) (w : List ℕ) → Ok h w r → anyFast? h ≡ any? (drop (fastAt k) (h .stacks))

@@ -1,9 +1,9 @@
--- `grants::step4` meets its contract: by the size and by the fast lists. Assumes nothing.
+-- `drains::step4` meets its contract: by the size and by the fast lists. Assumes nothing.
 use Rattle.prims.specs.Stacks.{ok-length}
-use Rattle.grants.specs.Ways.{small4, none4, some4}
+use Rattle.drains.specs.Step4.{small4, none4, some4}
 use borrow.Author.Needs.{needs}
-use Rattle.grants.proofs.step4.Statement.{statement}
-use Rattle.grants.proofs.step4.Tie as tie
+use Rattle.drains.proofs.step4.Statement.{statement}
+use Rattle.drains.proofs.step4.Tie as tie
 
 returns : tie.Need-returns
 returns c = small4 (c .before .before .before .args .b) _ _ (c .if1 .taken)

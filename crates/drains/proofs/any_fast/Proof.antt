@@ -1,10 +1,10 @@
--- `takes::any_fast` meets its contract: the lists that were passed are empty. Assumes nothing.
+-- `drains::any_fast` meets its contract: the lists that were passed are empty. Assumes nothing.
 use Prim.Native.Nat.{_-_, _≤_}
 use native.Mathlib.Omega.{arith}
-use Rattle.takes.specs.AnyFast.{From, from-start, from-next, from-found, from-end}
+use Rattle.drains.specs.AnyFast.{From, from-start, from-next, from-found, from-end}
 use borrow.Author.Needs.{needs}
-use Rattle.takes.proofs.any_fast.Statement.{statement}
-use Rattle.takes.proofs.any_fast.Tie as tie
+use Rattle.drains.proofs.any_fast.Statement.{statement}
+use Rattle.drains.proofs.any_fast.Tie as tie
 
 abbrev Inv-loop : tie.InvT-loop
 Inv-loop r k₀ k = (k ≤ 10) × From r k
