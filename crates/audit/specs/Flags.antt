@@ -12,7 +12,8 @@ use Rattle.machine.specs.Heap.{Tile, tile, endFrom}
 use Rattle.machine.specs.Audit.{flagOk, flagFault}
 use Rattle.machine.specs.declared.Audited.the-variants as A
 use Rattle.sound.specs.Relation.{flags}
-use Rattle.audit_walks.specs.Tests.{both-true, sound-if}
+use Rattle.sound.specs.Release.{both-true}
+use Rattle.audit_walks.specs.Tests.{sound-if}
 use Rattle.audit_walks.specs.Tiles.{noted}
 
 -- one tile; q: how often the bins have the one before, s: its size; b: how often they have this one

@@ -19,7 +19,8 @@ use Rattle.machine.specs.Audit.{fits}
 use Rattle.machine.specs.declared.ListKind.the-variants.{Cache, Fast, Bin}
 use Rattle.sound.specs.Relation.{chain, links, falls}
 use Rattle.sound.specs.Tiles.{lt-or-le}
-use Rattle.audit_walks.specs.Tests.{both-true, either-true, either-left, either-right}
+use Rattle.sound.specs.Release.{both-true}
+use Rattle.audit_walks.specs.Tests.{either-true, either-left, either-right}
 use Rattle.audit.specs.Lists.{suits}
 
 -- ---- the kind of list number i

@@ -18,7 +18,8 @@ use Rattle.machine.specs.Audit.{fits, mayEnd, goodFrom, listFault}
 use Rattle.machine.specs.declared.ListKind.{ListKind}
 use Rattle.machine.specs.declared.Audited.the-variants as A
 use Rattle.sound.specs.Relation.{chain}
-use Rattle.audit_walks.specs.Tests.{both-true, sound-if}
+use Rattle.sound.specs.Release.{both-true}
+use Rattle.audit_walks.specs.Tests.{sound-if}
 
 -- each chunk may stand where it stands, and the list may end where it ends
 abbrev pub suits : ListKind → List ℕ → List ℕ → ℕ → ℕ → List ℕ → Type 0

@@ -17,7 +17,7 @@ use Rattle.machine.specs.declared.ListKind.{ListKind}
 use Rattle.machine.specs.declared.ListKind.the-variants.{Cache, Fast, Bin}
 use Rattle.audit_lists.specs.Listed.{unmet, markOf}
 use Rattle.sound.specs.Tiles.{zero-or, lt-or-le}
-use Rattle.audit_walks.specs.Tests.{both-true}
+use Rattle.sound.specs.Release.{both-true}
 use Rattle.audit_walks.specs.Marks.{Marks, binAt}
 
 -- the chunks that go to bins

@@ -3,7 +3,7 @@ use mathlib.Core.Path.{_≡_, refl, sym, ap, _∙_, subst}
 use mathlib.Core.Bool.{Bool, true, false}
 use mathlib.Core.Logic.{_⊎_, inl, inr}
 use lib.Dec.{T}
-use Rattle.machine.specs.Lists.{both, either}
+use Rattle.machine.specs.Lists.{either}
 use Rattle.machine.specs.Audit.{sound?, first}
 use Rattle.machine.specs.declared.Audited.{Audited}
 use Rattle.machine.specs.declared.Audited.the-variants as A
@@ -21,10 +21,6 @@ is-sound (A.Tile o) e = false-true e
 is-sound (A.List k) e = false-true e
 is-sound (A.Flag o) e = false-true e
 is-sound A.Shape e = false-true e
-
-pub both-true : (a b : Bool) → both a b ≡ true → (a ≡ true) × (b ≡ true)
-both-true true b e = (refl, e)
-both-true false b e = false-true e
 
 pub either-true : (a b : Bool) → either a b ≡ true → (a ≡ true) ⊎ (b ≡ true)
 either-true true b e = inl refl

@@ -19,7 +19,8 @@ use Rattle.machine.specs.Audit.{tileOk, tileFault}
 use Rattle.machine.specs.declared.Audited.the-variants as A
 use Rattle.sound.specs.Relation.{fits, tilesAt}
 use Rattle.sound.specs.Tiles.{end-le, none-out}
-use Rattle.audit_walks.specs.Tests.{both-true, sound-if}
+use Rattle.sound.specs.Release.{both-true}
+use Rattle.audit_walks.specs.Tests.{sound-if}
 
 -- where P is set there is no previous size
 abbrev pub noted : List Tile → Type 0

@@ -3,7 +3,6 @@ use mathlib.Core.Path.{_≡_, refl, sym, ap, _∙_}
 use mathlib.Core.Bool.{Bool, true, false}
 use mathlib.Core.List.{List}
 use Prim.Native.Nat.{ℕ, _+_, _-_, _%_, _≤_, _<_}
-use native.Mathlib.Omega.{arith}
 use borrow.Author.Tests.{eq-eqb, ne-eqb, eqb-true, leb-true}
 use lib.Dec.{eqb, ltb, leb}
 use lib.ListN.{length, getD}
@@ -26,6 +25,7 @@ use Rattle.machine.specs.declared.Refusal.the-variants as R
 use Rattle.machine.specs.declared.Answer.{Answer}
 use Rattle.machine.specs.declared.Answer.the-variants.{Done, Granted, Refused}
 use Rattle.fields.specs.Follow.{answer, Gave}
+use Rattle.sound.specs.Release.{both-true}
 use Rattle.calls.specs.Blank.{blank, opened-blank, closed-blank}
 
 -- bytes of a slice, a whole number of words
@@ -50,10 +50,6 @@ allowed-true n e =
     let p = both-true (eqb (n % 16) 0) (both (leb 32 n) (leb n 262144)) e in
     let q = both-true (leb 32 n) (leb n 262144) (p .1) in
     (eqb-true (n % 16) 0 (p .0), leb-true 32 n (q .0), leb-true n 262144 (q .1))
-  where
-    both-true : (s t : Bool) → both s t ≡ true → (s ≡ true) × (t ≡ true)
-    both-true true t e = (refl, e)
-    both-true false t e = absurd (let z : _≡_ {A = ℕ} 0 1 = cc in omega arith)
 
 -- good shape
 pub shape-true : (a r : List ℕ) → length r ≡ 1572 → arenaAllowed? (length a) ≡ true → shape? a r ≡ true
