@@ -23,6 +23,7 @@ use Rattle.machine.specs.declared.ListKind.the-variants.{Cache, Fast, Bin}
 use Rattle.machine.specs.declared.Audited.the-variants as A
 use Rattle.sound.specs.Relation.{Mem, Homes, Good, Sound, chain, links, falls, stackSize}
 use Rattle.sound.specs.Tiles.{lt-or-le, fits-split, fits-join, Start, start, tiles-split, tiles-join}
+use Rattle.sound.specs.Lists.{links-chain}
 use Rattle.sound.specs.Homes.{falls-cong}
 use Rattle.sound.specs.RecordOf.{Recorded, record-words, record-ext}
 use Rattle.audit_walks.specs.Tiles.{TilesOk, one-tile, size-at}
@@ -30,7 +31,7 @@ use Rattle.audit_walks.specs.Marks.{ArenaBytes}
 use Rattle.audit_walks.specs.TileTurn.{arena-length}
 use Rattle.audit.specs.Flags.{flags-noted}
 use Rattle.audit.specs.Lists.{Suited, Suit, suit-get, suit-all}
-use Rattle.audit.specs.Kinds.{kind-cache, kind-fast, kind-bin, CacheListed, cache-out, cache-in, FastListed, fast-out, fast-in, BinListed, bin-out, bin-in, links-chain, up-hd, up-lst, up-one}
+use Rattle.audit.specs.Kinds.{kind-cache, kind-fast, kind-bin, CacheListed, cache-out, cache-in, FastListed, fast-out, fast-in, BinListed, bin-out, bin-in, up-hd, up-lst, up-one}
 use Rattle.audit.specs.Spelled.{Spelled, chunk-small, audit-spelled, spelled-read, spelled-audit}
 
 -- the allowed lengths of an arena

@@ -156,10 +156,6 @@ bin-in j w r p n (c ∷ l) k =
     }) in
     ((k .link .0, t .0), (fits-bin j w p n c (record { own = k .own c (cnt-here c l); back = k .link .1; order = λ g q. k .below g q c (cnt-here c l) }), t .1))
 
-pub links-chain : (w : List ℕ) (p : ℕ) (l : List ℕ) → links w p l none64 → chain w l
-links-chain w p [] k = tt
-links-chain w p (x ∷ l) k = (k .0, links-chain w x l (k .2))
-
 -- ---- a word of the record, and the link of the arena that stands for it
 up-small : (x : ℕ) → x < 262144 → up x ≡ x
 up-small x b = rw (ne-eqb x none32 (λ e. omega arith), up)

@@ -8,8 +8,7 @@ ghost use Rattle.machine.specs.Audit.{mayEnd};
 ghost use Rattle.audit_lists.specs.Listed.{unmet, markOf, tailWord};
 use audit_leaves::BINNED;
 use machine::ListKind;
-use sizes::NONE32;
-use sizes::NONE64;
+use sound::link_of;
 
 pub fn kind_at(i: u32) -> ListKind
     ensures { λ r. ⌜ r ≡ kindAt i ⌝ }
@@ -48,26 +47,16 @@ pub fn unmet(m: &[u8], c: u64) -> bool
     m[i] == 1
 }
 
-// A word of the record as a link of the arena.
-fn wide(v: u32) -> u64
-    ensures { λ r. ⌜ r ≡ up v ⌝ }
-{
-    if v == NONE32 {
-        return NONE64;
-    }
-    v as u64
-}
-
 pub fn head(r: &[u32], k: ListKind) -> u64
     requires { ⌜ (length (now r) ≡ 393) × (headWord k < 393) ⌝ }
     ensures { λ v. ⌜ v ≡ up (getD (now (r .entry)) (headWord k) 0) ⌝ }
 {
     match k {
-        ListKind::Cache(j) => wide(r[sizes::CACHE_HEADS + (j as usize)]),
-        ListKind::Fast(j) => wide(r[sizes::FAST_HEADS + (j as usize)]),
+        ListKind::Cache(j) => link_of(r[sizes::CACHE_HEADS + (j as usize)]),
+        ListKind::Fast(j) => link_of(r[sizes::FAST_HEADS + (j as usize)]),
         ListKind::Bin(j) => {
             let i = sizes::bin_first(j as usize);
-            wide(r[i])
+            link_of(r[i])
         }
     }
 }
@@ -82,7 +71,7 @@ pub fn may_end(r: &[u32], k: ListKind, p: u64, n: u32) -> bool
         ListKind::Fast(_) => true,
         ListKind::Bin(j) => {
             let i = sizes::bin_last(j as usize);
-            wide(r[i]) == p
+            link_of(r[i]) == p
         }
     }
 }

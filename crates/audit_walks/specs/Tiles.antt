@@ -18,7 +18,7 @@ use Rattle.machine.specs.View.{sizeAt, lowAt, tileAt, tilesFrom}
 use Rattle.machine.specs.Audit.{tileOk, tileFault}
 use Rattle.machine.specs.declared.Audited.the-variants as A
 use Rattle.sound.specs.Relation.{fits, tilesAt}
-use Rattle.sound.specs.Tiles.{end-le, none-out}
+use Rattle.sound.specs.Tiles.{end-le, none-out, starts-length}
 use Rattle.sound.specs.Release.{both-true}
 use Rattle.audit_walks.specs.Tests.{sound-if}
 
@@ -133,10 +133,6 @@ tiles-complete w o (t ∷ ts) k =
 -- ---- the starts: the end is none, and there are few
 pub end-no-start : (ts : List Tile) (o : ℕ) → fits ts → cnt (endFrom o ts) (startsFrom o ts) ≡ 0
 end-no-start ts o f = none-out ts o (endFrom o ts) f (inr (omega arith))
-
-starts-length : (o : ℕ) (ts : List Tile) → fits ts → o + 32 * length (startsFrom o ts) ≤ endFrom o ts
-starts-length o [] f = omega arith
-starts-length o (t ∷ ts) f = omega (arith, f .1, starts-length (o + t .size) ts (f .3))
 
 pub few : (w : List ℕ) (ts : List Tile) → TilesOk w 0 ts → length (startsFrom 0 ts) < length w
 few w ts k = omega (arith, starts-length 0 ts (k .fit), k .least, k .top)

@@ -3,25 +3,22 @@
 use mathlib.Core.Path.{_≡_, refl, sym, ap, _∙_, subst}
 use mathlib.Core.Bool.{true}
 use mathlib.Core.List.{List, [], _∷_}
-use Prim.Native.Nat.{ℕ, zero, suc, _+_, _-_, _*_, _≤_, _<_}
-use native.Mathlib.Nat.{not-suc-le-zero}
+use Prim.Native.Nat.{ℕ, suc, _+_, _-_, _≤_, _<_}
 use native.Mathlib.Omega.{arith}
 use lib.ListN.{length, getD}
 use lib.Seq.{getD-set-same}
-use borrow.Author.Tests.{ne-eqb}
 use Rattle.sizes.specs.Limits.{none64}
 use Rattle.sizes.specs.Layout.{fastHead}
 use Rattle.machine.specs.Lists.{hd, tl, some?, cnt}
-use Rattle.machine.specs.Count.{ind-same, cnt-here, cnt-there, cntAll-set, cnt-le-all, pigeons}
-use Rattle.machine.specs.Heap.{Tile, tile, Heap, stack, fastAt, endFrom, startsFrom, topSize, starts}
+use Rattle.machine.specs.Count.{ind-same, cntAll-set, cnt-le-all}
+use Rattle.machine.specs.Heap.{Heap, stack, fastAt}
 use Rattle.machine.specs.Writes.{Ran, ran, heapOf, writes, more, _>>=_}
 use Rattle.machine.specs.Primitives.{pop}
 use Rattle.machine.specs.Release.{join, drain, drains, consolidate}
 use Rattle.machine.specs.View.{up, chunksFrom}
 use Rattle.machine.specs.declared.{Got.Got, Got.the-variants.At}
-use Rattle.sound.specs.Relation.{fits, chain, Mem, Loose, Good}
+use Rattle.sound.specs.Relation.{Mem, Loose, Good}
 use Rattle.sound.specs.Stacks.{pop-ends}
-use Rattle.sound.specs.Tiles.{fits-split}
 use Rattle.sound.specs.Ends.{Ends}
 use Rattle.sound.specs.Moves.{nil, one, any}
 use Rattle.sound.specs.Leaves.{Leaves, Still}
@@ -29,7 +26,7 @@ use Rattle.sound.specs.Release.{Every, join-leaves}
 use Rattle.sound.specs.Settle.{drain-leaves}
 use Rattle.fields.specs.Follow.{Ok, Has, Gave, Does}
 use Rattle.fields.specs.FollowLaws.{gave-ok}
-use Rattle.prims.specs.Chunks.{Chunks, up-hd}
+use Rattle.prims.specs.Chunks.{list-short, up-hd, walk-list}
 use Rattle.prims.specs.Stacks.{ok-stack, ok-fastHead}
 use Rattle.fields.specs.Reach.{Reach, Way, more-nil, then-more, way-here, reach-then, reach-end}
 
@@ -37,36 +34,12 @@ use Rattle.fields.specs.Reach.{Reach, Way, more-nil, then-more, way-here, reach
 abbrev pub left : List ℕ → List ℕ → ℕ → ℕ
 left w r k = length (chunksFrom (length w) w (up (getD r (fastHead k) 0)))
 
-chunks-chain : (n : ℕ) (w l : List ℕ) → length l < n → Chunks w l → chain w l → chunksFrom n w (hd none64 l) ≡ l
-chunks-chain zero w l b k c = absurd (not-suc-le-zero b)
-chunks-chain (suc n) w [] b k c = refl
-chunks-chain (suc n) w (x ∷ l) b k c =
-    rw (ne-eqb x none64 (λ e. omega (arith, k x (cnt-here x l) .small)), chunksFrom)
-    (ap (λ (z : List ℕ). x ∷ z) (rw (c .0) (chunks-chain n w l (omega arith) (λ y i. k y (cnt-there y x l i)) (c .1))))
-
-starts-length : (o : ℕ) (ts : List Tile) → fits ts → o + 32 * length (startsFrom o ts) ≤ endFrom o ts
-starts-length o [] f = omega arith
-starts-length o (t ∷ ts) f = omega (arith, starts-length (o + t .size) ts (f .3))
-
 module _ (h : Heap) (w r : List ℕ) (o : Ok h w r) where
-  stack-short : (k : ℕ) → length (stack h k) < length w
-  stack-short k =
-      let s = o .shape in
-      let f : fits (h .tiles) × fits (tile (topSize h) 1 0 ∷ []) = fits-split (h .tiles) (tile (topSize h) 1 0 ∷ []) (s .fit) in
-      omega (
-        arith,
-        pigeons (stack h k) (starts h) (λ x. omega (arith, s .own x, cnt-le-all x (h .stacks) k)),
-        starts-length 0 (h .tiles)
-            (f .0),
-        f .1 .1,
-        o .mem .long,
-      )
-
   pub left-is : (k : ℕ) → k < 10 → left w r k ≡ length (stack h (fastAt k))
   left-is k hk =
       let l : List ℕ = stack h (fastAt k) in
       ap (λ (c : ℕ). length (chunksFrom (length w) w c)) (ap up (ok-fastHead h w r o k hk) ∙ up-hd w l (ok-stack h w r o (fastAt k)))
-      ∙ ap length (chunks-chain (length w) w l (stack-short (fastAt k)) (ok-stack h w r o (fastAt k)) (o .mem .chains (fastAt k)))
+      ∙ ap length (walk-list (length w) w l (list-short h w (o .shape) (o .mem) l (λ x. omega (arith, o .shape .own x, cnt-le-all x (h .stacks) (fastAt k)))) (ok-stack h w r o (fastAt k)) (o .mem .chains (fastAt k)))
 
 -- ---- the machine's drain, from the stack as it is: f is what is done with each chunk, and leaves the stacks of M as they are
 abbrev pub drainOf : (ℕ → Heap → Ran ℕ) → ℕ → Heap → Ran (Unit {0})

@@ -2,7 +2,7 @@
 -- links, a list taken apart at its end. Assumes nothing.
 use mathlib.Core.Path.{_≡_, refl, sym, ap, _∙_, subst}
 use mathlib.Core.List.{List, [], _∷_, _++_, append-assoc}
-use Prim.Native.Nat.{ℕ, zero, suc, _+_, _*_, _≤_, _<_}
+use Prim.Native.Nat.{ℕ, zero, suc, _+_, _≤_, _<_}
 use native.Mathlib.Nat.{not-suc-le-zero}
 use native.Mathlib.Omega.{arith}
 use lib.ListN.{length, getD, length-append}
@@ -11,11 +11,11 @@ use Rattle.sizes.specs.Limits.{none64}
 use Rattle.sizes.specs.Layout.{backWord}
 use Rattle.machine.specs.Lists.{hd, lst, cnt}
 use Rattle.machine.specs.Count.{cnt-append, cnt-here, cnt-le-all, pigeons}
-use Rattle.machine.specs.Heap.{Tile, tile, Heap, bin, endFrom, startsFrom, topSize, starts, sizeOf}
+use Rattle.machine.specs.Heap.{tile, Heap, bin, endFrom, topSize, starts, sizeOf}
 use Rattle.machine.specs.View.{sizeAt}
-use Rattle.sound.specs.Relation.{all, fits, links, Mem, Shape}
+use Rattle.sound.specs.Relation.{all, links, Mem, Shape}
 use Rattle.sound.specs.Frames.{end-all}
-use Rattle.sound.specs.Tiles.{end-append}
+use Rattle.sound.specs.Tiles.{end-append, starts-length}
 use Rattle.sound.specs.Lists.{links-split}
 use Rattle.sound.specs.Edits.{fits-tiles}
 use Rattle.prims.specs.Chunks.{Chunk, bin-chunk}
@@ -39,10 +39,6 @@ pub snoc-back : (w l : List ℕ) (c n : ℕ) → links w none64 (l ++ c ∷ []) 
 snoc-back w l c n k = links-split w none64 l (c ∷ []) n k .1 .1
 
 -- ---- how far it is
-starts-length : (o : ℕ) (ts : List Tile) → fits ts → o + 32 * length (startsFrom o ts) ≤ endFrom o ts
-starts-length o [] f = omega arith
-starts-length o (t ∷ ts) f = omega (arith, starts-length (o + t .size) ts (f .3), f .1)
-
 backFrom-length : (n : ℕ) (w xs : List ℕ) (k : ℕ) → links w none64 xs k → ((x : ℕ) → 1 ≤ cnt x xs → x ≡ none64 → ⊥) → length xs ≤ n
     → length (backFrom n w (lst none64 xs)) ≡ length xs
 unfolding backFrom

@@ -19,7 +19,8 @@ use Rattle.machine.specs.declared.Refusal.the-variants as N
 use Rattle.sound.specs.Tiles.{lt-or-le}
 use Rattle.history.specs.Histories.{Event, Grant, Release, Settle, Store, Block, holds?, State, state, arenaIn, granted, released, settled, next, run, begin}
 use Rattle.calls.specs.Results.{Lent}
-use Rattle.history.specs.Ready.{Ready, ReadyAt, left-length}
+use Rattle.calls.specs.Left.{left-length}
+use Rattle.history.specs.Ready.{Ready, ReadyAt}
 use Rattle.history.specs.Called.{open-lent, grant-large, grant-called, release-called, settle-called}
 use Rattle.history.specs.Runs.{next-ready}
 

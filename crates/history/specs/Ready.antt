@@ -14,7 +14,6 @@ use Rattle.le.specs.Number.{bytes}
 use Rattle.le.specs.NumberLaws.{number-small}
 use Rattle.le.specs.WordsLaws.{getD-words, length-bytes}
 use Rattle.le.specs.Arena.{arenaWords}
-use Rattle.le.specs.ArenaLaws.{length-arenaWords}
 use Rattle.sizes.specs.Limits.{recordWords}
 use Rattle.machine.specs.Lists.{ind, cnt}
 use Rattle.machine.specs.Count.{eq?, ind-same, ind-other}
@@ -23,7 +22,6 @@ use Rattle.machine.specs.Writes.{Write, apply}
 use Rattle.machine.specs.Calls.{heapIn, wordsOf}
 use Rattle.sound.specs.Relation.{Mem, Loose, Good, Sound}
 use Rattle.sound.specs.Tiles.{lt-or-le, starts-once}
-use Rattle.sound.specs.Frames.{apply-length}
 use Rattle.sound.specs.Edits.{fits-tiles}
 use Rattle.sound.specs.RecordOf.{record-words}
 use Rattle.history.specs.Histories.{Block, drop, State, state}
@@ -31,6 +29,7 @@ use Rattle.calls.specs.Results.{Lent}
 use Rattle.calls.specs.Bytes.{bytes-small}
 use Rattle.calls.specs.Written.{written-sound, written-read}
 use Rattle.calls.specs.Remainder.{Fine}
+use Rattle.calls.specs.Left.{left-length}
 
 -- how often a block at mem m is held
 abbrev pub heldAt : ℕ → List Block → ℕ
@@ -111,9 +110,6 @@ sized-drop z m (b ∷ bs) k = go (sized-drop z m bs (k .1)) (eqb m (b .mem))
     go f false = (k .0, f)
 
 -- ---- what a step leaves, as bytes
-pub left-length : (a r : List ℕ) → Lent a r → (ws : List Write) → length (bytes 8 (apply ws (arenaWords a))) ≡ length a
-left-length a r L ws = omega (arith, length-bytes 8 (apply ws (arenaWords a)), apply-length ws (arenaWords a), length-arenaWords a, L .even)
-
 pub left-ready : (a r : List ℕ) → Lent a r → (g : Heap) (ws : List Write) (bs : List Block) → Fine g → Mem g (apply ws (arenaWords a)) → Holds g bs
     → Ready (bytes 8 (apply ws (arenaWords a))) (bytes 4 (recordOf g)) bs
 left-ready a r L g ws bs F m H =

@@ -12,6 +12,7 @@ use lib.ListN.{length, getD, List·getD-append}
 use lib.Seq.{getD-append-add}
 use borrow.Author.Tests.{leb-true}
 use Rattle.le.specs.Number.{digits, bytes}
+use Rattle.le.specs.WordsLaws.{length-digits}
 use Rattle.le.specs.Arena.{arenaWords}
 use Rattle.le.specs.ArenaLaws.{bytes-arenaWords}
 use Rattle.sizes.specs.Sizes.{need}
@@ -42,11 +43,6 @@ use Rattle.history.specs.Ready.{heldAt, Ready, ReadyAt, held-loose}
 use Rattle.history.specs.Called.{grant-large, grant-called, release-called, settle-called}
 
 -- ---- a byte is a digit of its word
-length-digits : (n v : ℕ) → length (digits n v) ≡ n
-unfolding digits
-length-digits zero v = refl
-length-digits (suc n) v = ap suc (length-digits n (v / 256))
-
 bytes-at : (n : ℕ) (vs : List ℕ) (i j : ℕ) → i < length vs → j < n → getD (bytes n vs) (n * i + j) 0 ≡ getD (digits n (getD vs i 0)) j 0
 unfolding bytes
 bytes-at n [] i j h k = absurd (not-suc-le-zero h)

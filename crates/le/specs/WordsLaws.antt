@@ -57,7 +57,7 @@ words-put n m l k v lt fits b =
         ∙ getD-words n m l i h
         ∙ sym (number-put-other n n l (n * k) v (n * i) (apart n i k (eqb-false i k e)))
 
-length-digits : (n v : ℕ) → length (digits n v) ≡ n
+pub length-digits : (n v : ℕ) → length (digits n v) ≡ n
 unfolding digits
 length-digits zero v = refl
 length-digits (suc n) v = ap suc (length-digits n (v / 256))

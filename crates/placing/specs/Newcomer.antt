@@ -2,8 +2,7 @@
 -- how many chunks are ahead, read along the links. Assumes nothing.
 use mathlib.Core.Path.{_≡_, refl, sym, ap, _∙_, subst}
 use mathlib.Core.List.{List, [], _∷_, _++_, append-assoc, append-nil}
-use Prim.Native.Nat.{ℕ, zero, suc, _+_, _*_, _≤_, _<_}
-use native.Mathlib.Nat.{not-suc-le-zero, le-of-suc-le-suc}
+use Prim.Native.Nat.{ℕ, _+_, _≤_, _<_}
 use native.Mathlib.Omega.{arith}
 use lib.ListN.{length, getD}
 use borrow.Author.Tests.{eq-eqb, ne-eqb, lt-ltb, le-ltb}
@@ -13,20 +12,19 @@ use Rattle.sizes.specs.Layout.{binFirst, fwdWord}
 use Rattle.sizes.specs.Sizes.{binOf}
 use Rattle.sizes.specs.BinLaws.{binOf-bounds}
 use Rattle.machine.specs.Lists.{hd, lst, cnt}
-use Rattle.machine.specs.Count.{cnt-append, cnt-here, cnt-le-all, pigeons}
-use Rattle.machine.specs.Heap.{Tile, Heap, bin, endFrom, startsFrom, starts, sizeOf}
+use Rattle.machine.specs.Count.{cnt-append, cnt-here, cnt-le-all}
+use Rattle.machine.specs.Heap.{Heap, bin, sizeOf}
 use Rattle.machine.specs.Primitives.{linkIn, putFirst}
 use Rattle.machine.specs.Grant.{front, behind, sortIn}
 use Rattle.machine.specs.View.{up, sizeAt, chunksFrom}
-use Rattle.sound.specs.Relation.{all, fits, chain, links, Loose}
-use Rattle.sound.specs.Frames.{Starts, starts-all, end-all}
+use Rattle.sound.specs.Relation.{links, Loose}
 use Rattle.sound.specs.Edits.{size-32}
-use Rattle.sound.specs.Lists.{lst-append, links-split}
+use Rattle.sound.specs.Lists.{lst-append, links-split, links-chain}
 use Rattle.sound.specs.Sort.{front-behind}
 use Rattle.fields.specs.Follow.{Ok, Gave, Does}
 use Rattle.fields.specs.FollowLaws.{gave-by}
 use Rattle.prims.specs.Places.{Gap}
-use Rattle.prims.specs.Chunks.{Chunk, Chunks, Inside, in-bytes}
+use Rattle.prims.specs.Chunks.{Chunk, Chunks, Inside, in-bytes, list-short, walk-list}
 use Rattle.prims.specs.Sizes.{chunk-says}
 use Rattle.prims.specs.Bins.{ok-bin, first-gap, hd-nil}
 
@@ -156,35 +154,13 @@ module _ (h : Heap) (w r : List ℕ) (j z p n : ℕ) (o : Ok h w r) (a : On h j 
 unfoldable pub ahead : List ℕ → ℕ → ℕ
 ahead w n = length (chunksFrom (length w) w n)
 
-chain-of : (w : List ℕ) (p : ℕ) (l : List ℕ) → links w p l none64 → chain w l
-chain-of w p [] k = tt
-chain-of w p (x ∷ l) k = (k .0, chain-of w x l (k .2))
-
--- along the links the walk finds the list, if it may go that far
-walk-list : (n : ℕ) (w l : List ℕ) → length l ≤ n → Chunks w l → chain w l → chunksFrom n w (hd none64 l) ≡ l
-walk-list zero w [] f k c = refl
-walk-list zero w (x ∷ l) f k c = absurd (not-suc-le-zero f)
-walk-list (suc n) w [] f k c = refl
-walk-list (suc n) w (x ∷ l) f k c =
-    rw (ne-eqb x none64 (λ e. omega (arith, k x (cnt-here x l) .small)), chunksFrom)
-    (ap (λ (m : List ℕ). x ∷ m) (ap (chunksFrom n w) (c .0) ∙ walk-list n w l (le-of-suc-le-suc f) (λ y i. k y (omega arith)) (c .1)))
-
--- chunks are at least 32 bytes long
-starts-short : (o : ℕ) (ts : List Tile) → fits ts → o + 32 * length (startsFrom o ts) ≤ endFrom o ts
-starts-short o [] f = omega arith
-starts-short o (t ∷ ts) f = omega (arith, f .1, starts-short (o + t .size) ts (f .3))
-
-list-short : (h : Heap) (w r l : List ℕ) → Ok h w r → ((x : ℕ) → cnt x l ≤ cnt x (starts h)) → length l ≤ length w
-list-short h w r l o c =
-    omega (arith, pigeons l (Starts h) (λ x. omega (arith, c x, starts-all h x)), starts-short 0 (all h) (o .shape .fit), end-all h (o .shape .fit), o .mem .long)
-
 pub ahead-is : (h : Heap) (w r : List ℕ) (j z p n : ℕ) → Ok h w r → (a : On h j z p n) → ahead w n ≡ length (a .ys)
 unfolding ahead
 ahead-is h w r j z p n o a =
     ap (λ (m : ℕ). length (chunksFrom (length w) w m)) (a .gap .right)
     ∙ ap length (walk-list (length w) w (a .ys)
-    (list-short h w r (a .ys) o (λ x. omega (arith, ahead-cnt h w r j z p n o a x, cnt-le-all x (h .bins) j, o .shape .own x)))
-    (ahead-chunks h w r j z p n o a) (chain-of w (lst none64 (a .xs)) (a .ys) (ahead-links h w r j z p n o a)))
+    (list-short h w (o .shape) (o .mem) (a .ys) (λ x. omega (arith, ahead-cnt h w r j z p n o a x, cnt-le-all x (h .bins) j, o .shape .own x)))
+    (ahead-chunks h w r j z p n o a) (links-chain w (lst none64 (a .xs)) (a .ys) (ahead-links h w r j z p n o a)))
 
 pub ahead-less : (h : Heap) (w r : List ℕ) (j z p n : ℕ) → Ok h w r → (a : On h j z p n) → (ne : n ≡ none64 → ⊥) (s : ℕ) → s ≡ sizeAt w n → (x : ℕ) → x ≡ getD w (fwdWord n) 0
     → z ≤ s → (s ≡ z → ⊥) → ahead w x < ahead w n

@@ -3,7 +3,8 @@
 use mathlib.Core.Path.{_≡_, refl, ap, _∙_}
 use mathlib.Core.Bool.{true}
 use mathlib.Core.List.{List, [], _∷_}
-use Prim.Native.Nat.{ℕ, suc, _+_, _*_, _/_, _%_, _≤_, _<_, _^_}
+use Prim.Native.Nat.{ℕ, zero, suc, _+_, _*_, _/_, _%_, _≤_, _<_, _^_}
+use native.Mathlib.Nat.{le-of-suc-le-suc, not-suc-le-zero}
 use native.Mathlib.Omega.{arith}
 use lib.ListN.{length, getD}
 use borrow.Author.Tests.{ne-eqb}
@@ -12,11 +13,12 @@ use Rattle.le.specs.ArenaLaws.{length-arenaWords}
 use Rattle.sizes.specs.Limits.{none64, none32}
 use Rattle.sizes.specs.Layout.{fwdWord}
 use Rattle.machine.specs.Lists.{hd, lst, tl, some?, cnt}
-use Rattle.machine.specs.Count.{cnt-here, cnt-le-all}
-use Rattle.machine.specs.Heap.{Heap, stack, bin}
-use Rattle.machine.specs.View.{up}
-use Rattle.sound.specs.Relation.{Mem, Shape, Loose, chain}
-use Rattle.sound.specs.Frames.{Starts, starts-all, Grid, grid, in-starts}
+use Rattle.machine.specs.Count.{cnt-here, cnt-le-all, pigeons}
+use Rattle.machine.specs.Heap.{Heap, stack, bin, starts}
+use Rattle.machine.specs.View.{up, chunksFrom}
+use Rattle.sound.specs.Relation.{all, Mem, Shape, Loose, chain}
+use Rattle.sound.specs.Tiles.{starts-length}
+use Rattle.sound.specs.Frames.{Starts, starts-all, end-all, Grid, grid, in-starts}
 use Rattle.sound.specs.Lists.{lst-in}
 use Rattle.sound.specs.Links.{down}
 
@@ -42,6 +44,10 @@ module _ (h : Heap) (w : List ℕ) (s : Shape h) (m : Mem h w) where
       let e : c % 16 ≡ 0 = g .even c i in
       let n : c / 8 + 4 ≤ length w = g .inside c i in
       record { even = e; inside = omega arith; small = omega (arith, m .long, s .small) }
+
+  -- a list of chunks is no longer than the words: each chunk has four of them
+  pub list-short : (l : List ℕ) → ((x : ℕ) → cnt x l ≤ cnt x (starts h)) → length l ≤ length w
+  list-short l c = omega (arith, pigeons l (Starts h) (λ x. omega (arith, c x, starts-all h x)), starts-length 0 (all h) (s .fit), end-all h (s .fit), m .long)
 
   pub loose-chunk : (c : ℕ) → Loose h c → Chunk w c
   loose-chunk c l = start-chunk c (omega (arith, starts-all h c))
@@ -93,3 +99,12 @@ head w (x ∷ l) e k c =
     let t : Chunks w l = λ y i. k y (omega arith) in
     let d : down (getD w (fwdWord x) 0) ≡ hd none32 l = ap down (c .0) ∙ down-hd w l t in
     record { here = k x (cnt-here x l); same = refl; next = d; fits = rw d (hd-fits w l t); more = refl }
+
+-- ---- along the links the walk finds the list, if it may go that far
+pub walk-list : (n : ℕ) (w l : List ℕ) → length l ≤ n → Chunks w l → chain w l → chunksFrom n w (hd none64 l) ≡ l
+walk-list zero w [] f k c = refl
+walk-list zero w (x ∷ l) f k c = absurd (not-suc-le-zero f)
+walk-list (suc n) w [] f k c = refl
+walk-list (suc n) w (x ∷ l) f k c =
+    rw (ne-eqb x none64 (λ e. omega (arith, k x (cnt-here x l) .small)), chunksFrom)
+    (ap (λ (m : List ℕ). x ∷ m) (ap (chunksFrom n w) (c .0) ∙ walk-list n w l (le-of-suc-le-suc f) (λ y i. k y (omega arith)) (c .1)))

@@ -16,7 +16,7 @@ use Rattle.machine.specs.Count.{eq?, ind-same, ind-other, cnt-append, cnt-here,
 use Rattle.machine.specs.Heap.{Heap, bin, starts}
 use Rattle.machine.specs.Writes.{Write, who, put, apply, heapOf, writes, fwd, back}
 use Rattle.machine.specs.Primitives.{fwdTo, backTo, linkIn, unlink}
-use Rattle.sound.specs.Relation.{links, Mem, Shape, Loose}
+use Rattle.sound.specs.Relation.{chain, links, Mem, Shape, Loose}
 use Rattle.sound.specs.Frames.{Agree, links-cong, Starts, starts-all, Grid, grid, Sub, put-length, apply-length, apply-append, put-other, put-same, agree, LinkW, link-append, link-out, rebin}
 
 -- ---- the list alone
@@ -42,6 +42,10 @@ lst-in x [] = cnt-here x []
 lst-in x (y ∷ ys) = omega (arith, lst-in y ys)
 
 -- ---- links of a list in two parts
+pub links-chain : (w : List ℕ) (p : ℕ) (l : List ℕ) → links w p l none64 → chain w l
+links-chain w p [] k = tt
+links-chain w p (x ∷ l) k = (k .0, links-chain w x l (k .2))
+
 pub links-split : (w : List ℕ) (p : ℕ) (a b : List ℕ) (n : ℕ) → links w p (a ++ b) n → links w p a (hd n b) × links w (lst p a) b n
 links-split w p [] b n k = (tt, k)
 links-split w p (x ∷ a) b n k =

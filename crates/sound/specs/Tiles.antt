@@ -4,11 +4,11 @@ use mathlib.Core.Path.{_≡_, refl, sym, ap, _∙_}
 use mathlib.Core.List.{List, [], _∷_, _++_}
 use mathlib.Core.Logic.{_⊎_, inl, inr, ⊎-elim}
 use mathlib.Core.Bool.{Bool, true, false}
-use Prim.Native.Nat.{ℕ, zero, suc, _+_, _/_, _%_, _≤_, _<_}
+use Prim.Native.Nat.{ℕ, zero, suc, _+_, _*_, _/_, _%_, _≤_, _<_}
 use native.Mathlib.Nat.{not-suc-le-zero}
 use native.Mathlib.Omega.{arith}
 use lib.Dec.{eqb, ltb}
-use lib.ListN.{getD}
+use lib.ListN.{length, getD}
 use borrow.Author.Tests.{eq-eqb, ne-eqb, ltb-true, ltb-false}
 use Rattle.sizes.specs.Layout.{prevWord, sizeWord}
 use Rattle.machine.specs.Lists.{ind, cnt}
@@ -71,6 +71,10 @@ pub none-out : (ts : List Tile) (o x : ℕ) → fits ts → (x < o) ⊎ (endFrom
 none-out ts o x f d = ⊎-elim (λ z. z)
     (λ z. let s : Start ts o x = start ts o x f z in absurd (⊎-elim (λ l. omega arith) (λ l. omega arith) d))
     (zero-or (cnt x (startsFrom o ts)))
+
+pub starts-length : (o : ℕ) (ts : List Tile) → fits ts → o + 32 * length (startsFrom o ts) ≤ endFrom o ts
+starts-length o [] f = omega arith
+starts-length o (t ∷ ts) f = omega (arith, f .1, starts-length (o + t .size) ts (f .3))
 
 pub starts-once : (ts : List Tile) (o x : ℕ) → fits ts → cnt x (startsFrom o ts) ≤ 1
 starts-once [] o x f = omega arith

@@ -39,14 +39,14 @@ cast-bin-last c = search needs
 bin-last-requires : tie.Need-bin-last-requires
 bin-last-requires c κs = omega (arith, ap tailWord (c .before .k2 .given .1))
 
-mul-wide : tie.Need-mul-wide
-mul-wide c = search needs
+mul-link-of : tie.Need-mul-link-of
+mul-link-of c = search needs
 
-shared-slice-read-wide : tie.Need-shared-slice-read-wide
-shared-slice-read-wide c = omega (arith, ap tailWord (c .before .before .before .k2 .given .1), c .before .bin-last .ensures)
+shared-slice-read-link-of : tie.Need-shared-slice-read-link-of
+shared-slice-read-link-of c = omega (arith, ap tailWord (c .before .before .before .k2 .given .1), c .before .bin-last .ensures)
 
-wide-requires : tie.Need-wide-requires
-wide-requires c κs = search needs
+link-of-requires : tie.Need-link-of-requires
+link-of-requires c κs = search needs
 
 returns : tie.Need-returns
 returns c = let s = c .before .before .before .before .before in mayEnd-by (s .args .k) (Cache _) (s .args .r .now) (s .args .p) (s .args .n) (c .before .before .k .given .1)
@@ -55,7 +55,7 @@ returns-2 : tie.Need-returns-2
 returns-2 c = search needs
 
 returns-3 : tie.Need-returns-3
-returns-3 c = let s = c .before .before .before .before .before .before .before in ap (λ (v : ℕ). eqb v (s .args .p)) (c .wide .ensures ∙ ap (λ (n : ℕ). up (getD (s .args .r .now) n 0)) (c .before .before .bin-last .ensures)) ∙ mayEnd-by (s .args .k) (Bin _) (s .args .r .now) (s .args .p) (s .args .n) (c .before .before .before .before .k2 .given .1)
+returns-3 c = let s = c .before .before .before .before .before .before .before in ap (λ (v : ℕ). eqb v (s .args .p)) (c .link-of .ensures ∙ ap (λ (n : ℕ). up (getD (s .args .r .now) n 0)) (c .before .before .bin-last .ensures)) ∙ mayEnd-by (s .args .k) (Bin _) (s .args .r .now) (s .args .p) (s .args .n) (c .before .before .before .before .k2 .given .1)
 
 pub may-end-spec : {M : Type 1} → statement M
 may-end-spec =
@@ -70,9 +70,9 @@ may-end-spec =
     enum-known-k-2
     cast-bin-last
     bin-last-requires
-    mul-wide
-    shared-slice-read-wide
-    wide-requires
+    mul-link-of
+    shared-slice-read-link-of
+    link-of-requires
     returns
     returns-2
     returns-3)
