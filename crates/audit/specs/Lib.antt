@@ -8,3 +8,5 @@ pub mod Done
 pub mod MarkLaws
 pub mod ListTurn
 pub mod Whole
+pub mod Looks
+pub mod Zeros

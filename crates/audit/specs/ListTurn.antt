@@ -20,7 +20,7 @@ use Rattle.machine.specs.declared.ListKind.the-variants.{Cache, Fast, Bin}
 use Rattle.machine.specs.declared.Audited.{Audited}
 use Rattle.machine.specs.declared.Audited.the-variants as A
 use Rattle.audit_lists.specs.Listed.{unmet, markOf, tailWord}
-use Rattle.empties.specs.Skips.{Empty, Skipped}
+use Rattle.audit_empty_lists.specs.Skips.{Empty, Skipped}
 use Rattle.audit_walks.specs.Tests.{not-sound}
 use Rattle.audit_walks.specs.Marks.{Marks, Started, startsOf}
 use Rattle.audit.specs.Lists.{minusAll}

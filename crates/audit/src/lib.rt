@@ -1,14 +1,24 @@
 // The audit: sound, or the first fault of arena and record, in the order record, tiles, lists, flags. Linear in the arena: each tile is read twice, each
-// chunk of a list once. The walks over the tiles stand in the crate audit_walks, the marks in the crate looks.
+// chunk of a list once. The walks over the tiles stand in the crate audit_walks, the marks in call_look.rt.
 // Assumes nothing.
 mod lists; // lists.rt: the nested loop over lists and chunks
+mod call_look; // call_look.rt: what a call finds before it writes
 
+pub use call_look::audit_words;
+pub use call_look::look_at;
 ghost use mathlib.Core.Path.{_≡_};
 ghost use lib.ListN.{length};
 ghost use Rattle.le.specs.Arena.{arenaWords};
 ghost use Rattle.audit_walks.specs.Marks.{Bytes, Clear};
 ghost use Rattle.audit.specs.Done.{AuditDone};
 use machine::Audited;
+
+// What a call finds before it writes.
+pub enum Look {
+    Faulty(Audited),
+    NotLive,
+    Live,
+}
 
 // The marks m, all 0 and one for each 16 bytes of arena, are lent: in a sound heap they are then 1 exactly at the live blocks.
 pub fn audit_marks(a: &[u8], r: &[u32], m: &mut [u8]) -> Audited

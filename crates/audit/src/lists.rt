@@ -17,7 +17,7 @@ pub fn list_fault(a: &[u8], r: &[u32], m: &mut [u8]) -> Audited
     let mut fault = Audited::Sound;
     let mut i: u32 = 0;
     'lists: while i < 200 {
-        let j = empties::skip(r, i);
+        let j = audit_empty_lists::skip(r, i);
         if j == 200 {
             break;
         }
@@ -33,8 +33,8 @@ pub fn list_fault(a: &[u8], r: &[u32], m: &mut [u8]) -> Audited
                 break 'lists;
             }
             let at = c as usize;
-            let s = audit_leaves::size_word(a, at).size();
-            if !audit_fits::fits(a, k, at, s, p, q, n) {
+            let s = audit_walks::size_word(a, at).size();
+            if !audit_lists::fits(a, k, at, s, p, q, n) {
                 fault = Audited::List(k);
                 break 'lists;
             }
@@ -42,7 +42,7 @@ pub fn list_fault(a: &[u8], r: &[u32], m: &mut [u8]) -> Audited
             p = c;
             q = s;
             n += 1;
-            c = audit_leaves::forward(a, at);
+            c = audit_walks::forward(a, at);
         }
         if !audit_lists::may_end(r, k, p, n) {
             fault = Audited::List(k);

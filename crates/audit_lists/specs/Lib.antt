@@ -1,2 +1,4 @@
+pub mod Stand
+pub mod StandWays
 pub mod Listed
-pub mod Ways
+pub mod ByKind

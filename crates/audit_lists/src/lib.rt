@@ -1,14 +1,17 @@
 // What the audit asks of one list, each against its definition in the machine: its kind, its mark, its head and end in the record, whether a chunk was met.
 // The loop over them stands in the crate audit. Assumes nothing.
+mod stands; // stands.rt: whether a chunk may stand in a list
+
+pub use stands::fits;
 ghost use mathlib.Core.Path.{_≡_};
 ghost use Prim.Native.Nat.{_<_};
 ghost use lib.ListN.{length, getD};
 ghost use Rattle.machine.specs.View.{up, kindAt, headWord};
 ghost use Rattle.machine.specs.Audit.{mayEnd};
 ghost use Rattle.audit_lists.specs.Listed.{unmet, markOf, tailWord};
-use audit_leaves::BINNED;
+use audit_walks::BINNED;
+use chunk_fields::link_of;
 use machine::ListKind;
-use sound::link_of;
 
 pub fn kind_at(i: u32) -> ListKind
     ensures { λ r. ⌜ r ≡ kindAt i ⌝ }

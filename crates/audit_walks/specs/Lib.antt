@@ -1,3 +1,5 @@
+pub mod Leaves
+pub mod Words
 pub mod Tests
 pub mod Tiles
 pub mod Marks

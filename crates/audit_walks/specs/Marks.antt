@@ -10,7 +10,7 @@ use Rattle.machine.specs.View.{tileAt, tilesOf}
 use Rattle.machine.specs.Audit.{tileFault, flagFault}
 use Rattle.machine.specs.declared.Audited.{Audited}
 use Rattle.machine.specs.declared.Audited.the-variants as A
-use Rattle.audit_leaves.specs.Leaves.{binnedBy}
+use Rattle.audit_walks.specs.Leaves.{binnedBy}
 use Rattle.audit_walks.specs.Tiles.{TilesOk}
 
 -- the allowed lengths of an arena

@@ -19,7 +19,7 @@ use Rattle.machine.specs.View.{sizeAt, lowAt, tileAt, tilesFrom, tilesOf}
 use Rattle.machine.specs.Audit.{tileOk, tileFault}
 use Rattle.machine.specs.declared.Audited.the-variants as A
 use Rattle.sound.specs.Tiles.{Start, start, starts-once}
-use Rattle.audit_leaves.specs.Leaves.{wordOk}
+use Rattle.audit_walks.specs.Leaves.{wordOk}
 use Rattle.sound.specs.Release.{both-true}
 use Rattle.audit_walks.specs.Tests.{not-sound}
 use Rattle.audit_walks.specs.Tiles.{TilesOk, tiles-sound, few}

@@ -1,8 +1,22 @@
 // Tiles from 0: size a multiple of 16, at least 32, within what remains, bits 1 to 3 clear; the tile that reaches the end is the record's top.
 // Assumes nothing.
+ghost use mathlib.Core.Path.{_≡_};
+ghost use Rattle.audit_walks.specs.Leaves.{wordOk};
 ghost use Rattle.le.specs.Arena.{arenaWords};
 ghost use Rattle.audit_walks.specs.Marks.{Bytes, Clear, TilesDone};
+use crate::chunk;
 use machine::Audited;
+use sizes::LEAST_CHUNK;
+use sizes::SizeWord;
+
+pub fn tile_ok(x: SizeWord) -> bool
+    ensures { λ r. ⌜ r ≡ wordOk (x .0) ⌝ }
+{
+    if SizeWord::P < x.low() {
+        return false;
+    }
+    LEAST_CHUNK <= x.size()
+}
 
 // The first bad tile, or sound; marks 1 at each chunk but the top.
 pub fn tile_fault(a: &[u8], top: u32, m: &mut [u8]) -> Audited
@@ -12,8 +26,8 @@ pub fn tile_fault(a: &[u8], top: u32, m: &mut [u8]) -> Audited
     let mut o: usize = 0;
     let mut room = a.len();
     loop {
-        let x = audit_leaves::size_word(a, o);
-        if !audit_leaves::tile_ok(x) {
+        let x = chunk::size_word(a, o);
+        if !tile_ok(x) {
             return Audited::Tile(o as u32);
         }
         let s = x.size() as usize;

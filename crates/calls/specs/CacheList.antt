@@ -21,10 +21,10 @@ use Rattle.machine.specs.Calls.{wordsOf}
 use Rattle.machine.specs.declared.{Got.Got, Got.the-variants.At}
 use Rattle.sound.specs.Relation.{Shape, Loose, Good}
 use Rattle.sound.specs.RecordOf.{record-cacheHead, record-cacheCount, record-withCache}
-use Rattle.cached.specs.CacheOnly.{CacheOnly}
-use Rattle.fields.specs.Follow.{Has, answer, Does}
-use Rattle.fields.specs.FollowLaws.{gave-by, gave-giving, got-absurd}
-use Rattle.releases.specs.Offered.{Offered}
+use Rattle.record_words.specs.CacheOnly.{CacheOnly}
+use Rattle.primitives.specs.Follow.{Has, answer, Does}
+use Rattle.primitives.specs.FollowLaws.{gave-by, gave-giving, got-absurd}
+use Rattle.release.specs.Offered.{Offered}
 
 -- the record's words when cache list k became l
 pub cache-only : (h : Heap) (k : ℕ) (l q p : List ℕ) → Shape h → k < 64 → q ≡ recordOf h → p ≡ recordOf (withStack k l h) → CacheOnly k q p

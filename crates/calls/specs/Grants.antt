@@ -38,10 +38,10 @@ use Rattle.sound.specs.Spares.{clear-of}
 use Rattle.sound.specs.Moves.{answerOf}
 use Rattle.sound.specs.Keeps.{grant-ends}
 use Rattle.sound.specs.Live.{grant-gives}
-use Rattle.fields.specs.Follow.{Ok, answer, Gave, Does}
-use Rattle.fields.specs.FollowLaws.{gave-ok}
-use Rattle.prims.specs.Chunks.{start-chunk, loose-chunk}
-use Rattle.prims.specs.Sizes.{chunk-says}
+use Rattle.primitives.specs.Follow.{Ok, answer, Gave, Does}
+use Rattle.primitives.specs.FollowLaws.{gave-ok}
+use Rattle.primitives.specs.Chunks.{start-chunk, loose-chunk}
+use Rattle.primitives.specs.Sizes.{chunk-says}
 use Rattle.calls.specs.Ways.{Octets, kept, grant-request, grant-unsound, grant-none, grant-at}
 use Rattle.calls.specs.Through.{Came, came-shape, came-sound, told, sound-ok}
 

@@ -29,10 +29,10 @@ use Rattle.sound.specs.Release.{both-true}
 use Rattle.audit_walks.specs.Tests.{is-sound}
 use Rattle.audit_walks.specs.Marks.{ArenaBytes}
 use Rattle.audit.specs.Exact.{arena-words, audit-sound}
-use Rattle.looks.specs.Looks.{liveMem?, lookAt, look-is-faulty, look-is-live, look-is-dead}
-use Rattle.looks.specs.declared.Look.{Look}
-use Rattle.looks.specs.declared.Look.the-variants.{Faulty, NotLive, Live}
-use Rattle.fields.specs.Follow.{Ok, Has, answer, Gave, Does}
+use Rattle.audit.specs.Looks.{liveMem?, lookAt, look-is-faulty, look-is-live, look-is-dead}
+use Rattle.audit.specs.declared.Look.{Look}
+use Rattle.audit.specs.declared.Look.the-variants.{Faulty, NotLive, Live}
+use Rattle.primitives.specs.Follow.{Ok, Has, answer, Gave, Does}
 use Rattle.calls.specs.Ways.{Octets, kept, allowed-true, shape-true, settle-unsound, settle-done, release-unsound, release-null, release-dead, release-done}
 
 -- good buffers, and the record's words q

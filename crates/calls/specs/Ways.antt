@@ -24,7 +24,7 @@ use Rattle.machine.specs.declared.Audited.the-variants as A
 use Rattle.machine.specs.declared.Refusal.the-variants as R
 use Rattle.machine.specs.declared.Answer.{Answer}
 use Rattle.machine.specs.declared.Answer.the-variants.{Done, Granted, Refused}
-use Rattle.fields.specs.Follow.{answer, Gave}
+use Rattle.primitives.specs.Follow.{answer, Gave}
 use Rattle.sound.specs.Release.{both-true}
 use Rattle.calls.specs.Blank.{blank, opened-blank, closed-blank}
 

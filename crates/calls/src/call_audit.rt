@@ -15,6 +15,6 @@ pub fn audit(arena: &[u8], control: &[u8]) -> Audited
         return Audited::Shape;
     }
     let mut r = [0u32; 393];
-    le::read_words(control, &mut r);
-    looks::audit_words(arena, &r)
+    record_words::read_words(control, &mut r);
+    audit::audit_words(arena, &r)
 }

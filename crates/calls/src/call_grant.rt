@@ -9,13 +9,13 @@ ghost use Rattle.machine.specs.View.{sizeAt};
 ghost use Rattle.machine.specs.Grant.{grant};
 ghost use Rattle.machine.specs.Calls.{after, wordsOf, grantCall};
 ghost use Rattle.sound.specs.Relation.{Good};
-ghost use Rattle.fields.specs.Follow.{Has, Does};
+ghost use Rattle.primitives.specs.Follow.{Has, Does};
 ghost use Rattle.calls.specs.Grants.{Stands};
 use crate::shape::allowed;
-use cached::put_cache;
 use machine::Answer;
 use machine::Got;
 use machine::Refusal;
+use record_words::put_cache;
 use sizes::Chunk;
 use sizes::Needed;
 use sizes::RECORD_BYTES;
@@ -27,7 +27,7 @@ fn granted_at(a: &[u8], c: u32) -> Answer
 {
     let mem = Chunk(c).mem();
     let m = mem.0;
-    let u = sizes::usable(fields::size_at(a, c as u64));
+    let u = sizes::usable(chunk_fields::size_at(a, c as u64));
     Answer::Granted {
         mem: m,
         usable: u as u32,
@@ -39,13 +39,13 @@ fn find(arena: &mut [u8], control: &mut [u8], r: &mut [u32], b: u64) -> Got
     requires { ⌜ (b % 16 ≡ 0) × (32 ≤ b) × (b ≤ 262160) × Has Good (arenaWords (now arena)) (now r) × (length (now control) ≡ 1572) × (now r ≡ wordsOf (now control)) ⌝ }
     ensures { λ g. ⌜ Does Got Good (grant b) (arenaWords (now (arena .entry))) (now (r .entry)) g (arenaWords (now (arena .exit))) (now (r .exit)) × (now (control .exit) ≡ bytes 4 (now (r .exit))) ⌝ }
 {
-    let g1 = takes::step1(arena, r, b);
+    let g1 = grant_steps_1_3::step1(arena, r, b);
     if let Got::At(c) = g1 {
         put_cache(control, r, sizes::cache_list(b));
         return Got::At(c);
     }
-    let g = grants::seek(arena, r, b);
-    le::write_words(control, r);
+    let g = grant::seek(arena, r, b);
+    record_words::write_words(control, r);
     g
 }
 
@@ -65,8 +65,8 @@ pub fn grant(arena: &mut [u8], control: &mut [u8], n: u64) -> Answer
         }
         Needed::Size(b) => {
             let mut r = [0u32; 393];
-            le::read_words(control, &mut r);
-            let f = looks::audit_words(arena, &r);
+            record_words::read_words(control, &mut r);
+            let f = audit::audit_words(arena, &r);
             if !machine::is_sound(f) {
                 return Answer::Refused(Refusal::Unsound);
             }

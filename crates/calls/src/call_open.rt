@@ -36,11 +36,11 @@ pub fn open(arena: &mut [u8], control: &mut [u8]) -> Answer
     let n = arena.len();
     if !allowed(n) {
         fill(&mut r, 0, NONE32);
-        le::write_words(control, &r);
+        record_words::write_words(control, &r);
         return Answer::Refused(Refusal::Shape);
     }
     fill(&mut r, n as u32, 0);
-    le::write_words(control, &r);
-    fields::set_size(arena, 0, n as u64, 1);
+    record_words::write_words(control, &r);
+    chunk_fields::set_size(arena, 0, n as u64, 1);
     Answer::Done
 }

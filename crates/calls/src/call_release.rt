@@ -7,12 +7,12 @@ ghost use Rattle.machine.specs.Writes.{giving};
 ghost use Rattle.machine.specs.Release.{release};
 ghost use Rattle.machine.specs.Calls.{after, wordsOf, releaseCall};
 ghost use Rattle.sound.specs.Relation.{Loose, Good};
-ghost use Rattle.fields.specs.Follow.{Has, Does};
+ghost use Rattle.primitives.specs.Follow.{Has, Does};
 use crate::shape::allowed;
-use cached::put_cache;
-use looks::Look;
+use audit::Look;
 use machine::Answer;
 use machine::Refusal;
+use record_words::put_cache;
 use sizes::CACHE_LISTS;
 use sizes::RECORD_BYTES;
 
@@ -21,13 +21,13 @@ fn give_back(arena: &mut [u8], control: &mut [u8], r: &mut [u32], c: u64)
     requires { ⌜ Has (λ h. Good h × Loose h c) (arenaWords (now arena)) (now r) × (length (now control) ≡ 1572) × (now r ≡ wordsOf (now control)) ⌝ }
     ensures { λ _. ⌜ Does (Unit {0}) (λ h. Good h × Loose h c) (λ h. giving tt (release c h)) (arenaWords (now (arena .entry))) (now (r .entry)) tt (arenaWords (now (arena .exit))) (now (r .exit)) × (now (control .exit) ≡ bytes 4 (now (r .exit))) ⌝ }
 {
-    let k = releases::to_cache(arena, r, c);
+    let k = release::to_cache(arena, r, c);
     if k < CACHE_LISTS {
         put_cache(control, r, k);
         return;
     }
-    releases::release_past(arena, r, c);
-    le::write_words(control, r);
+    release::release_past(arena, r, c);
+    record_words::write_words(control, r);
 }
 
 pub fn release(arena: &mut [u8], control: &mut [u8], mem: u64) -> Answer
@@ -40,8 +40,8 @@ pub fn release(arena: &mut [u8], control: &mut [u8], mem: u64) -> Answer
         return Answer::Refused(Refusal::Shape);
     }
     let mut r = [0u32; 393];
-    le::read_words(control, &mut r);
-    let l = looks::look_at(arena, &r, mem);
+    record_words::read_words(control, &mut r);
+    let l = audit::look_at(arena, &r, mem);
     match l {
         Look::Faulty(_) => {
             return Answer::Refused(Refusal::Unsound);

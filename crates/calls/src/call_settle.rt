@@ -16,12 +16,12 @@ pub fn settle(arena: &mut [u8], control: &mut [u8]) -> Answer
         return Answer::Refused(Refusal::Shape);
     }
     let mut r = [0u32; 393];
-    le::read_words(control, &mut r);
-    let f = looks::audit_words(arena, &r);
+    record_words::read_words(control, &mut r);
+    let f = audit::audit_words(arena, &r);
     if !machine::is_sound(f) {
         return Answer::Refused(Refusal::Unsound);
     }
-    settles::settle(arena, &mut r);
-    le::write_words(control, &r);
+    settle::settle(arena, &mut r);
+    record_words::write_words(control, &r);
     Answer::Done
 }

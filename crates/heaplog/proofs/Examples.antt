@@ -16,7 +16,7 @@ use Rattle.machine.specs.Calls.{auditCall, closedRecord, openCall, grantCall, r
 use Rattle.machine.proofs.Script.{same?}
 use Rattle.script.specs.Grammar.{digitsFrom, numberOf, lineOf}
 use Rattle.script_format.specs.Format.{decimal, field, callText, questionText}
-use Rattle.runs.specs.Run.{run, called, placedStep, lineStep}
+use Rattle.script_run.specs.Run.{run, called, placedStep, lineStep}
 use Rattle.heaplog.specs.Script.{linesFrom, printed}
 
 -- A 256, G 24, G 25, R 16, R 16, G 0, G 200, R 48, R 16, S, G 200

@@ -5,7 +5,7 @@ use Prim.Native.Nat.{ℕ}
 use lib.Dec.{eqb}
 use lib.ListN.{replicate}
 use Rattle.script_format.specs.Format.{newline, header}
-use Rattle.runs.specs.Run.{Run, run, Step, step, lineStep, byteStep, endStep}
+use Rattle.script_run.specs.Run.{Run, run, Step, step, lineStep, byteStep, endStep}
 
 -- the lines of a text, after the bytes p of a line: each ends in a newline, which the last may lack if it has a byte
 abbrev pub lastLine : List ℕ → List (List ℕ)

@@ -11,7 +11,7 @@ use Rattle.script.specs.Grammar.{lineOf}
 use Rattle.script.specs.declared.Line.{Line}
 use Rattle.script_reader.specs.GrammarLaws.{lineOf-take}
 use Rattle.script_format.specs.Format.{newline, questionText, header}
-use Rattle.runs.specs.Run.{Run, run, Step, step, called, lengthOf, ranStep, counted, placedStep, lineStep, byteStep, endStep}
+use Rattle.script_run.specs.Run.{Run, run, Step, step, called, lengthOf, ranStep, counted, placedStep, lineStep, byteStep, endStep}
 use Rattle.heaplog.specs.Script.{linesFrom, andThen, printed, beforeAll, heaplog, printedBytes}
 
 take-take : (n : ℕ) (p q : List ℕ) → take n (take n p ++ q) ≡ take n (p ++ q)

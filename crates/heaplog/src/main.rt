@@ -1,10 +1,10 @@
-// heaplog: runs a script of calls from standard input and prints a line for each. Reading and writing stand here; what a byte does stands in `runs`.
+// heaplog: runs a script of calls from standard input and prints a line for each. Reading and writing stand here; what a byte does stands in `script_run`.
 // Assumes nothing of its own: what io's reads and writes assume, libc says.
 ghost use Prim.Native.Nat.{_≤_};
-ghost use Rattle.runs.specs.Run.{Lent};
+ghost use Rattle.script_run.specs.Run.{Lent};
 use libc::STDIN_FILENO;
 use libc::STDOUT_FILENO;
-use runs::Log;
+use script_run::Log;
 
 // Feeds the bytes of a piece, and writes what each step prints.
 fn feed_piece(
@@ -20,7 +20,7 @@ fn feed_piece(
 {
     let mut i = 0;
     while i < piece.len() {
-        log = runs::feed(log, piece[i], arena, control, out);
+        log = script_run::feed(log, piece[i], arena, control, out);
         let n = log.printed;
         io::write_all(STDOUT_FILENO, &out[..n]);
         i += 1;
@@ -38,7 +38,7 @@ fn turn(log: Log, arena: &mut [u8], control: &mut [u8], out: &mut [u8]) -> Log
     let got = libc::read(STDIN_FILENO, &mut buf);
     let n = io::count(got, &buf);
     if n == 0 {
-        let mut last = runs::finish(log, arena, control, out);
+        let mut last = script_run::finish(log, arena, control, out);
         let k = last.printed;
         io::write_all(STDOUT_FILENO, &out[..k]);
         last.ended = true;

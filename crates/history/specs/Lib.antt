@@ -13,3 +13,5 @@ pub mod Lengths
 pub mod Emptied
 pub mod Theorem
 pub mod Spared
+pub mod Performed
+pub mod Sample

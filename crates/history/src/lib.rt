@@ -1,2 +1,30 @@
-// Histories of calls and holders' writes, and what every one of them comes to: no code, only theorems. specs/Theorem.antt has demand 3; that the proved
-// calls meet it stands in the crate performed. Assumes nothing.
+// Histories of calls and holders' writes, and what every one of them comes to: specs/Theorem.antt has demand 3. The code performs a history's calls by the
+// proved calls; specs/Performed.antt says what they come to.
+// Assumes nothing.
+ghost use mathlib.Core.Path.{_≡_};
+ghost use Rattle.machine.specs.Calls.{after};
+ghost use Rattle.history.specs.Performed.{callOf};
+use machine::Answer;
+
+// A call of a history, with its number.
+pub enum Call {
+    Grant(u64),
+    Release(u64),
+    Settle,
+}
+
+pub fn perform(arena: &mut [u8], control: &mut [u8], c: Call) -> Answer
+    ensures { λ x. ⌜ after (now (arena .exit)) (now (control .exit)) x ≡ callOf c (now (arena .entry)) (now (control .entry)) ⌝ }
+{
+    match c {
+        Call::Grant(n) => {
+            return calls::grant(arena, control, n);
+        }
+        Call::Release(m) => {
+            return calls::release(arena, control, m);
+        }
+        Call::Settle => {
+            return calls::settle(arena, control);
+        }
+    }
+}

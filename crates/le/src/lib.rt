@@ -1,9 +1,9 @@
-// Little-endian numbers in a byte slice: one of 8 or of 4 bytes, the arena as words of 8 bytes, the record as 393 words of 4.
+// Little-endian numbers in a byte slice: one of 8 or of 4 bytes, and the arena as words of 8 bytes. The record's words stand in the crate record_words.
 // In machine code a write is one store, and a read one load where the whole number is used. Assumes nothing.
 ghost use mathlib.Core.Path.{_≡_};
 ghost use Prim.Native.Nat.{_+_, _*_, _/_, _%_, _≤_};
 ghost use lib.ListN.{length, getD, set};
-ghost use Rattle.le.specs.Number.{number, put, words, bytes};
+ghost use Rattle.le.specs.Number.{number, put};
 ghost use Rattle.le.specs.Arena.{arenaWords};
 
 // One sum, not nested: so the compiler loads 4 bytes at once also where only some bits of the number are used.
@@ -92,27 +92,4 @@ pub fn set_word(a: &mut [u8], o: usize, v: u64)
     ensures { λ _. ⌜ arenaWords (now (a .exit)) ≡ set (arenaWords (now (a .entry))) (o / 8) v ⌝ }
 {
     write8(a, o, v);
-}
-
-// The record's words out of its bytes, and back.
-pub fn read_words(b: &[u8], r: &mut [u32])
-    requires { ⌜ (length (now b) ≡ 1572) × (length (now r) ≡ 393) ⌝ }
-    ensures { λ _. ⌜ now (r .exit) ≡ words 4 393 (now (b .entry)) ⌝ }
-{
-    let mut i: usize = 0;
-    while i < 393 {
-        r[i] = read4(b, 4 * i);
-        i += 1;
-    }
-}
-
-pub fn write_words(b: &mut [u8], r: &[u32])
-    requires { ⌜ (length (now b) ≡ 1572) × (length (now r) ≡ 393) ⌝ }
-    ensures { λ _. ⌜ now (b .exit) ≡ bytes 4 (now (r .entry)) ⌝ }
-{
-    let mut i: usize = 0;
-    while i < 393 {
-        write4(b, 4 * i, r[i]);
-        i += 1;
-    }
 }

@@ -1,9 +1,13 @@
 // Sizes and offsets: what a request needs, where a size belongs, the size word, chunk and mem offsets; the limits and the record's layout.
-// The bin of a size stands in the crate bins.
 // Assumes nothing.
+mod table; // table.rt: the bins of the sizes below 16,384
+mod bins; // bins.rt: the bin of any size
 mod layout; // layout.rt: which word of the record is what
 mod limits; // limits.rt: document 01's limits
 
+pub use bins::bin_of;
+pub use bins::large_bin;
+pub use bins::last_word;
 pub use layout::CACHE_COUNTS;
 pub use layout::CACHE_HEADS;
 pub use layout::FAST_HEADS;

@@ -24,5 +24,4 @@ pub mod Grant
 pub mod Opened
 pub mod Keeps
 pub mod Live
-pub mod Links
 pub mod RecordOf

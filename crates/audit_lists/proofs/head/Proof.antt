@@ -4,7 +4,7 @@ use Prim.Native.Nat.{ℕ}
 use native.Mathlib.Omega.{arith}
 use lib.ListN.{getD}
 use borrow.Author.Needs.{needs}
-use Rattle.audit_lists.specs.Ways.{head-by}
+use Rattle.audit_lists.specs.ByKind.{head-by}
 use Rattle.machine.specs.declared.ListKind.the-variants.{Cache, Fast, Bin}
 use Rattle.machine.specs.View.{up, headWord}
 use Rattle.audit_lists.proofs.head.Statement.{statement}

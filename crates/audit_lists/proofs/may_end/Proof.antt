@@ -5,7 +5,7 @@ use native.Mathlib.Omega.{arith}
 use lib.ListN.{getD}
 use lib.Dec.{eqb}
 use borrow.Author.Needs.{needs}
-use Rattle.audit_lists.specs.Ways.{mayEnd-by}
+use Rattle.audit_lists.specs.ByKind.{mayEnd-by}
 use Rattle.machine.specs.declared.ListKind.the-variants.{Cache, Bin}
 use Rattle.machine.specs.View.{up}
 use Rattle.audit_lists.specs.Listed.{tailWord}

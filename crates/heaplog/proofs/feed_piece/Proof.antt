@@ -4,7 +4,7 @@ use Prim.Native.Nat.{_≤_, _-_}
 use lib.Seq.{length-take-le}
 use lib.ListN.{length}
 use borrow.Author.Needs.{needs}
-use Rattle.runs.specs.Run.{Lent}
+use Rattle.script_run.specs.Run.{Lent}
 use Rattle.heaplog.proofs.feed_piece.Statement.{statement}
 use Rattle.heaplog.proofs.feed_piece.Tie as tie
 

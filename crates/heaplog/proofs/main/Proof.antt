@@ -1,7 +1,7 @@
 -- `heaplog::main` meets its contract: the loop's invariant: the lent bytes have their lengths, and the opened arena fits; the measure is the number that falls. Assumes nothing.
 use Prim.Native.Nat.{_≤_}
 use borrow.Author.Needs.{needs}
-use Rattle.runs.specs.Run.{Lent}
+use Rattle.script_run.specs.Run.{Lent}
 use Rattle.heaplog.proofs.main.Statement.{statement}
 use Rattle.heaplog.proofs.main.Tie as tie
 

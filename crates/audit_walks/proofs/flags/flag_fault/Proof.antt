@@ -8,7 +8,7 @@ use borrow.Author.Tests.{not-true, not-false}
 use borrow.Author.Needs.{needs}
 use Rattle.le.specs.Arena.{arenaWords}
 use Rattle.machine.specs.View.{sizeAt}
-use Rattle.audit_leaves.specs.Leaves.{binnedBy}
+use Rattle.audit_walks.specs.Leaves.{binnedBy}
 use Rattle.audit_walks.specs.Marks.{binAt}
 use Rattle.audit_walks.specs.TileTurn.{arena-length}
 use Rattle.audit_walks.specs.FlagTurn.{FlagIn, flags-enter, flags-low, flag-seen, flag-bad, flag-turn, flag-size, flag-last}

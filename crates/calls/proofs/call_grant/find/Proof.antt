@@ -1,8 +1,8 @@
 -- `find`: a chunk from the cache, and the record but for its list's two words as it was; or the steps behind, and the whole record. Assumes nothing.
 use native.Mathlib.Omega.{arith}
-use Rattle.prims.specs.Stacks.{ok-length}
-use Rattle.grants.specs.Chain.{after}
-use Rattle.grants.specs.Ways.{keeps1, grant1, grant2}
+use Rattle.primitives.specs.Stacks.{ok-length}
+use Rattle.grant.specs.Chain.{after}
+use Rattle.grant.specs.Ways.{keeps1, grant1, grant2}
 use Rattle.calls.specs.CacheList.{found-small, found-only}
 use borrow.Author.Needs.{needs}
 use Rattle.calls.proofs.call_grant.find.Statement.{statement}

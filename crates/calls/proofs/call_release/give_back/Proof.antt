@@ -1,6 +1,6 @@
 -- `give_back`: the chunk in the cache, and the record but for its list's two words as it was; or past the cache, and the whole record. Assumes nothing.
 use native.Mathlib.Omega.{arith}
-use Rattle.prims.specs.Stacks.{ok-length}
+use Rattle.primitives.specs.Stacks.{ok-length}
 use Rattle.calls.specs.CacheList.{cached-does, cached-only, past-has, past-does}
 use borrow.Author.Needs.{needs}
 use Rattle.calls.proofs.call_release.give_back.Statement.{statement}

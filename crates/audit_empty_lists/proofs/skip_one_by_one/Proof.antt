@@ -1,0 +1,85 @@
+-- `audit_empty_lists::skip_one_by_one` meets its contract: the bins passed are empty by their two words. Assumes nothing.
+use Prim.Native.Nat.{_-_}
+use native.Mathlib.Omega.{arith}
+use Rattle.audit_empty_lists.specs.Skips.{Skipped}
+use Rattle.audit_empty_lists.specs.Runs.{skipped-none, skipped-bin}
+use borrow.Author.Needs.{needs}
+use Rattle.audit_empty_lists.proofs.skip_one_by_one.Statement.{statement}
+use Rattle.audit_empty_lists.proofs.skip_one_by_one.Tie as tie
+
+abbrev Inv-loop : tie.InvT-loop
+Inv-loop r i j₀ j = Skipped r i j
+
+abbrev μ-loop : tie.MeasureT-loop
+μ-loop r i j₀ j = 200 - j
+
+loop-holds : tie.Need-loop-holds Inv-loop μ-loop
+loop-holds c = skipped-none _ _ (c .before .pre .2)
+
+sub-bin-first : tie.Need-sub-bin-first Inv-loop μ-loop
+sub-bin-first c = search needs
+
+cast-bin-first : tie.Need-cast-bin-first Inv-loop μ-loop
+cast-bin-first c = search needs
+
+bin-first-requires : tie.Need-bin-first-requires Inv-loop μ-loop
+bin-first-requires c κs = search needs
+
+mul-if1 : tie.Need-mul-if1 Inv-loop μ-loop
+mul-if1 c = search needs
+
+shared-slice-read-if1 : tie.Need-shared-slice-read-if1 Inv-loop μ-loop
+shared-slice-read-if1 c = search needs
+
+returns : tie.Need-returns Inv-loop μ-loop
+returns c = search needs
+
+add-if2 : tie.Need-add-if2 Inv-loop μ-loop
+add-if2 c = search needs
+
+mul-if2 : tie.Need-mul-if2 Inv-loop μ-loop
+mul-if2 c = search needs
+
+shared-slice-read-if2 : tie.Need-shared-slice-read-if2 Inv-loop μ-loop
+shared-slice-read-if2 c = search needs
+
+returns-2 : tie.Need-returns-2 Inv-loop μ-loop
+returns-2 c = search needs
+
+add-j : tie.Need-add-j Inv-loop μ-loop
+add-j c = search needs
+
+loop-less : tie.Need-loop-less Inv-loop μ-loop
+loop-less c = search needs
+
+loop-again : tie.Need-loop-again Inv-loop μ-loop
+loop-again c =
+    let l = c .before .before .before .before .before .before .loop in
+    let p = c .before .before .before .before .before .before .before .before .pre in
+    skipped-bin _ _ _ _ (omega (arith, l .inv .low, p .1)) (c .before .before .before .before .before .loop-test .taken)
+    (c .before .before .before .before .bin-first .ensures) (l .inv) (c .before .before .if1 .left) (c .if2 .left)
+
+returns-3 : tie.Need-returns-3 Inv-loop μ-loop
+returns-3 c = search needs
+
+pub skip-one-by-one-spec : {M : Type 1} → statement M
+skip-one-by-one-spec =
+    tie.close
+    (tie.spec
+    Inv-loop
+    μ-loop
+    loop-holds
+    sub-bin-first
+    cast-bin-first
+    bin-first-requires
+    mul-if1
+    shared-slice-read-if1
+    returns
+    add-if2
+    mul-if2
+    shared-slice-read-if2
+    returns-2
+    add-j
+    loop-less
+    loop-again
+    returns-3)

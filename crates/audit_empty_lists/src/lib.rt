@@ -1,0 +1,124 @@
+// Lists that are empty by the record's words alone: most are so, and nothing else of them is looked at. Assumes nothing.
+ghost use mathlib.Core.Path.{_≡_};
+ghost use mathlib.Core.Bool.{true};
+ghost use Prim.Native.Nat.{_+_, _≤_};
+ghost use lib.ListN.{length};
+ghost use Rattle.sizes.specs.Limits.{none32};
+ghost use Rattle.audit_empty_lists.specs.Skips.{fourAnd, fourOr, AllFrom, Skipped};
+use sizes::NONE32;
+
+// The bits that are set in all of four words, and those that are set in any of them.
+fn four_and(r: &[u32], f: usize) -> u32
+    requires { ⌜ f + 4 ≤ length (now r) ⌝ }
+    ensures { λ v. ⌜ v ≡ fourAnd (now (r .entry)) f ⌝ }
+{
+    r[f] & r[f + 1] & r[f + 2] & r[f + 3]
+}
+
+fn four_or(r: &[u32], f: usize) -> u32
+    requires { ⌜ f + 4 ≤ length (now r) ⌝ }
+    ensures { λ v. ⌜ v ≡ fourOr (now (r .entry)) f ⌝ }
+{
+    r[f] | r[f + 1] | r[f + 2] | r[f + 3]
+}
+
+// Whether the eight words from f on are all none, which has every bit set.
+fn eight_none(r: &[u32], f: usize) -> bool
+    requires { ⌜ f + 8 ≤ length (now r) ⌝ }
+    ensures { λ v. ⌜ (v ≡ true → AllFrom (now (r .entry)) f 8 none32) ⌝ }
+{
+    four_and(r, f) & four_and(r, f + 4) == NONE32
+}
+
+// Whether they are all 0.
+fn eight_zero(r: &[u32], f: usize) -> bool
+    requires { ⌜ f + 8 ≤ length (now r) ⌝ }
+    ensures { λ v. ⌜ (v ≡ true → AllFrom (now (r .entry)) f 8 0) ⌝ }
+{
+    four_or(r, f) | four_or(r, f + 4) == 0
+}
+
+// The first list from number i on that is not empty, or 200, where i is a bin's. Four at a time, while there are four.
+fn skip_bins(r: &[u32], i: u32) -> u32
+    requires { ⌜ (length (now r) ≡ 393) × (74 ≤ i) × (i ≤ 200) ⌝ }
+    ensures { λ j. ⌜ Skipped (now (r .entry)) i j ⌝ }
+{
+    let mut j = i;
+    while j < 197 {
+        if !eight_none(r, sizes::bin_first((j - 73) as usize)) {
+            break;
+        }
+        j += 4;
+    }
+    skip_one_by_one(r, j)
+}
+
+// The same, bin by bin.
+fn skip_one_by_one(r: &[u32], i: u32) -> u32
+    requires { ⌜ (length (now r) ≡ 393) × (74 ≤ i) × (i ≤ 200) ⌝ }
+    ensures { λ j. ⌜ Skipped (now (r .entry)) i j ⌝ }
+{
+    let mut j = i;
+    while j < 200 {
+        let first = sizes::bin_first((j - 73) as usize);
+        if r[first] != NONE32 {
+            return j;
+        }
+        if r[first + 1] != NONE32 {
+            return j;
+        }
+        j += 1;
+    }
+    j
+}
+
+// The same where i is a fast list's or a bin's.
+fn skip_fast(r: &[u32], i: u32) -> u32
+    requires { ⌜ (length (now r) ≡ 393) × (64 ≤ i) × (i ≤ 200) ⌝ }
+    ensures { λ j. ⌜ Skipped (now (r .entry)) i j ⌝ }
+{
+    let mut j = i;
+    while j < 74 {
+        if r[sizes::FAST_HEADS + ((j - 64) as usize)] != NONE32 {
+            return j;
+        }
+        j += 1;
+    }
+    skip_bins(r, j)
+}
+
+// The same, cache list by cache list, where i may be any list's.
+fn skip_caches(r: &[u32], i: u32) -> u32
+    requires { ⌜ (length (now r) ≡ 393) × (i ≤ 200) ⌝ }
+    ensures { λ j. ⌜ Skipped (now (r .entry)) i j ⌝ }
+{
+    let mut j = i;
+    while j < 64 {
+        if r[sizes::CACHE_HEADS + (j as usize)] != NONE32 {
+            return j;
+        }
+        if r[sizes::CACHE_COUNTS + (j as usize)] != 0 {
+            return j;
+        }
+        j += 1;
+    }
+    skip_fast(r, j)
+}
+
+// The first list from number i on that is not empty, or 200. Eight cache lists at a time, while there are eight.
+pub fn skip(r: &[u32], i: u32) -> u32
+    requires { ⌜ (length (now r) ≡ 393) × (i ≤ 200) ⌝ }
+    ensures { λ j. ⌜ Skipped (now (r .entry)) i j ⌝ }
+{
+    let mut j = i;
+    while j < 57 {
+        if !eight_none(r, sizes::CACHE_HEADS + (j as usize)) {
+            break;
+        }
+        if !eight_zero(r, sizes::CACHE_COUNTS + (j as usize)) {
+            break;
+        }
+        j += 8;
+    }
+    skip_caches(r, j)
+}

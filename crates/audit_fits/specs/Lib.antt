@@ -1,2 +1,0 @@
-pub mod Stand
-pub mod Ways

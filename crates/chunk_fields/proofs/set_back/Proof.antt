@@ -1,0 +1,25 @@
+-- `chunk_fields::set_back` meets its contract: the back link of a chunk stands 24 bytes, which is 3 words, behind its start. Assumes nothing.
+use mathlib.Core.Path.{_≡_}
+use Prim.Native.Nat.{_+_, _/_}
+use native.Mathlib.Omega.{arith}
+use borrow.Author.Needs.{needs}
+use Rattle.chunk_fields.proofs.set_back.Statement.{statement}
+use Rattle.chunk_fields.proofs.set_back.Tie as tie
+
+add-set-word : tie.Need-add-set-word
+add-set-word c = search needs
+
+set-word-requires : tie.Need-set-word-requires
+set-word-requires c κs = search needs
+
+same-length : tie.Need-same-length
+same-length c = search needs
+
+returns : tie.Need-returns
+returns c =
+    let a = c .before .before .before .before .before .args in
+    let e : (a .c + 24) / 8 ≡ a .c / 8 + 3 = omega arith in
+    cc
+
+pub set-back-spec : {M : Type 1} → statement M
+set-back-spec = tie.close (tie.spec add-set-word set-word-requires same-length returns)

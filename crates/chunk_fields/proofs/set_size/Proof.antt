@@ -1,0 +1,29 @@
+-- `chunk_fields::set_size` meets its contract: the size word of a chunk stands 8 bytes, which is 1 words, behind its start. Assumes nothing.
+use mathlib.Core.Path.{_≡_}
+use Prim.Native.Nat.{_+_, _/_}
+use native.Mathlib.Omega.{arith}
+use borrow.Author.Needs.{needs}
+use Rattle.chunk_fields.proofs.set_size.Statement.{statement}
+use Rattle.chunk_fields.proofs.set_size.Tie as tie
+
+add-set-word : tie.Need-add-set-word
+add-set-word c = search needs
+
+add-set-word-2 : tie.Need-add-set-word-2
+add-set-word-2 c = search needs
+
+set-word-requires : tie.Need-set-word-requires
+set-word-requires c κs = search needs
+
+same-length : tie.Need-same-length
+same-length c = search needs
+
+returns : tie.Need-returns
+returns c =
+    let a = c .before .before .before .before .before .args in
+    let e : (a .c + 8) / 8 ≡ a .c / 8 + 1 = omega arith in
+    cc
+
+pub set-size-spec : {M : Type 1} → statement M
+set-size-spec =
+    tie.close (tie.spec add-set-word add-set-word-2 set-word-requires same-length returns)

@@ -1,0 +1,22 @@
+-- `chunk_fields::size_word_at` meets its contract: the size word of a chunk stands 8 bytes, which is 1 words, behind its start. Assumes nothing.
+use mathlib.Core.Path.{_≡_}
+use Prim.Native.Nat.{_+_, _/_}
+use native.Mathlib.Omega.{arith}
+use borrow.Author.Needs.{needs}
+use Rattle.chunk_fields.proofs.size_word_at.Statement.{statement}
+use Rattle.chunk_fields.proofs.size_word_at.Tie as tie
+
+add-word : tie.Need-add-word
+add-word c = search needs
+
+word-requires : tie.Need-word-requires
+word-requires c κs = search needs
+
+returns : tie.Need-returns
+returns c =
+    let a = c .before .before .args in
+    let e : (a .c + 8) / 8 ≡ a .c / 8 + 1 = omega arith in
+    cc
+
+pub size-word-at-spec : {M : Type 1} → statement M
+size-word-at-spec = tie.close (tie.spec add-word word-requires returns)

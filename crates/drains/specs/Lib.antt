@@ -1,3 +1,0 @@
-pub mod Drain
-pub mod AnyFast
-pub mod Step4

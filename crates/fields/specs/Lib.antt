@@ -1,3 +1,0 @@
-pub mod Follow
-pub mod FollowLaws
-pub mod Reach

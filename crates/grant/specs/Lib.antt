@@ -1,0 +1,4 @@
+pub mod Step4
+pub mod Chain
+pub mod Ways
+pub mod Top

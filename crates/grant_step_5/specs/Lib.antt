@@ -1,0 +1,4 @@
+pub mod Newcomer
+pub mod Keep
+pub mod Turns
+pub mod Loop

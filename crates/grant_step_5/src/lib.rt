@@ -1,0 +1,123 @@
+// Document 01's step 5: the unsorted chunks, from the last, are granted, cached or binned.
+mod sort; // sort.rt: where a chunk goes that was taken out
+
+use chunk_fields::size_at;
+use grant_step_8::split;
+use machine::Got;
+use machine::Turn;
+use primitives::set_p;
+use primitives::take_cache;
+use primitives::unlink;
+use sizes::LARGE;
+use sizes::MOST_BINNED;
+use sizes::NONE32;
+use sizes::REMAINDER_WORD;
+use sizes::UNSORTED;
+use sort::keep;
+use sort::sort_in;
+ghost use mathlib.Core.Path.{_≡_};
+ghost use Prim.Native.Nat.{_+_, _%_, _≤_, _<_};
+ghost use lib.ListN.{length};
+ghost use Rattle.le.specs.Arena.{arenaWords};
+ghost use Rattle.machine.specs.Grant.{splitLone, turn, swept, step5};
+ghost use Rattle.machine.specs.declared.{Got.Got, Turn.Turn, Turn.the-variants.Granted};
+ghost use Rattle.sound.specs.Relation.{Good};
+ghost use Rattle.primitives.specs.Follow.{Has, Does};
+ghost use Rattle.grant_step_5.specs.Turns.{Waits, loneIn, takeOut};
+ghost use Rattle.grant_step_5.specs.Loop.{Full};
+
+// Whether c, the last of unsorted and of size z, is the only one, the last remainder, and large enough to be split for a small b.
+fn is_lone(r: &[u32], b: u64, c: u32, z: u64) -> bool
+    requires { ⌜ length (now r) ≡ 393 ⌝ }
+    ensures { λ t. ⌜ t ≡ loneIn (now (r .entry)) b c z ⌝ }
+{
+    if LARGE <= b {
+        return false;
+    }
+    if r[sizes::bin_first(UNSORTED)] != c {
+        return false;
+    }
+    if r[REMAINDER_WORD] != c {
+        return false;
+    }
+    b + 32 < z
+}
+
+// c, the lone chunk, is split at b: the rest stays the one unsorted chunk and becomes last remainder.
+fn split_lone(a: &mut [u8], r: &mut [u32], b: u64, c: u64, z: u64)
+    requires { ⌜ (b % 16 ≡ 0) × (32 ≤ b) × (b + 32 < z) × Has (λ h. Waits h c z) (arenaWords (now a)) (now r) ⌝ }
+    ensures { λ _. ⌜ Does Turn (λ h. Waits h c z) (splitLone b c) (arenaWords (now (a .entry))) (now (r .entry)) (Granted c) (arenaWords (now (a .exit))) (now (r .exit)) ⌝ }
+{
+    unlink(a, r, c, z);
+    split(a, r, c, z, b);
+    r[REMAINDER_WORD] = (c + b) as u32;
+}
+
+// c, an unsorted chunk of size z, is taken out: kept if its size is b, else binned.
+fn take_out(a: &mut [u8], r: &mut [u32], b: u64, c: u32, z: u64) -> Turn
+    requires { ⌜ (32 ≤ b) × Has (λ h. Waits h c z) (arenaWords (now a)) (now r) ⌝ }
+    ensures { λ t. ⌜ Does Turn (λ h. Waits h c z) (takeOut b c) (arenaWords (now (a .entry))) (now (r .entry)) t (arenaWords (now (a .exit))) (now (r .exit)) ⌝ }
+{
+    unlink(a, r, c as u64, z);
+    if z == b {
+        set_p(a, c as u64 + z);
+        return keep(a, r, b, c);
+    }
+    sort_in(a, r, c as u64, z);
+    Turn::Binned
+}
+
+// One turn: the last of unsorted.
+fn turn(a: &mut [u8], r: &mut [u32], b: u64) -> Turn
+    requires { ⌜ (b % 16 ≡ 0) × (32 ≤ b) × Has Good (arenaWords (now a)) (now r) ⌝ }
+    ensures { λ t. ⌜ Does Turn Good (turn b) (arenaWords (now (a .entry))) (now (r .entry)) t (arenaWords (now (a .exit))) (now (r .exit)) ⌝ }
+{
+    let c = r[sizes::bin_last(UNSORTED)];
+    if c == NONE32 {
+        return Turn::Empty;
+    }
+    let z = size_at(a, c as u64);
+    if is_lone(r, b, c, z) {
+        split_lone(a, r, b, c as u64, z);
+        return Turn::Granted(c);
+    }
+    take_out(a, r, b, c, z)
+}
+
+// The end: the head of b's cache list if one was cached.
+fn swept(a: &[u8], r: &mut [u32], b: u64, got: bool) -> Got
+    requires { ⌜ (32 ≤ b) × Has (Full b got) (arenaWords (now a)) (now r) ⌝ }
+    ensures { λ g. ⌜ Does Got (Full b got) (swept b got) (arenaWords (now (a .entry))) (now (r .entry)) g (arenaWords (now (a .entry))) (now (r .exit)) ⌝ }
+{
+    if got {
+        let k = sizes::cache_list(b);
+        return Got::At(take_cache(a, r, k) as u32);
+    }
+    Got::Nothing
+}
+
+pub fn step5(a: &mut [u8], r: &mut [u32], b: u64) -> Got
+    requires { ⌜ (b % 16 ≡ 0) × (32 ≤ b) × (b ≤ 262160) × Has Good (arenaWords (now a)) (now r) ⌝ }
+    ensures { λ g. ⌜ Does Got Good (step5 b) (arenaWords (now (a .entry))) (now (r .entry)) g (arenaWords (now (a .exit))) (now (r .exit)) ⌝ }
+{
+    let mut left = MOST_BINNED;
+    let mut got = false;
+    while left != 0 {
+        let t = turn(a, r, b);
+        match t {
+            Turn::Granted(c) => {
+                return Got::At(c);
+            }
+            Turn::Cached => {
+                got = true;
+            }
+            Turn::Binned => {
+                left = left - 1;
+            }
+            Turn::Empty => {
+                return swept(a, r, b, got);
+            }
+        }
+    }
+    swept(a, r, b, got)
+}

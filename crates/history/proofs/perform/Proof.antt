@@ -1,0 +1,72 @@
+-- `perform` is the machine's call: each kind by the proved call. Assumes nothing.
+use mathlib.Core.Path.{sym, ap, _∙_}
+use Rattle.history.specs.declared.Call.{Call}
+use Rattle.history.specs.Performed.{callOf}
+use borrow.Author.Needs.{needs}
+use Rattle.history.proofs.perform.Statement.{statement}
+use Rattle.history.proofs.perform.Tie as tie
+
+enum-known-c : tie.Need-enum-known-c
+enum-known-c c = search needs
+
+grant-requires : tie.Need-grant-requires
+grant-requires c κs = search needs
+
+same-length : tie.Need-same-length
+same-length c = search needs
+
+same-length-2 : tie.Need-same-length-2
+same-length-2 c = search needs
+
+returns : tie.Need-returns
+returns c = let s = c .before .before .before .before .before .before .before .before .before .before .before .before in c .before .before .before .before .grant .ensures ∙ ap (λ (x : Call). callOf x (s .args .arena .now) (s .args .control .now)) (sym (c .before .before .before .before .before .before .before .before .c .given .1))
+
+enum-known-c-2 : tie.Need-enum-known-c-2
+enum-known-c-2 c = search needs
+
+release-requires : tie.Need-release-requires
+release-requires c κs = search needs
+
+same-length-3 : tie.Need-same-length-3
+same-length-3 c = search needs
+
+same-length-4 : tie.Need-same-length-4
+same-length-4 c = search needs
+
+returns-2 : tie.Need-returns-2
+returns-2 c = let s = c .before .before .before .before .before .before .before .before .before .before .before .before in c .before .before .before .before .release .ensures ∙ ap (λ (x : Call). callOf x (s .args .arena .now) (s .args .control .now)) (sym (c .before .before .before .before .before .before .before .before .c2 .given .1))
+
+enum-told : tie.Need-enum-told
+enum-told c = search needs
+
+settle-requires : tie.Need-settle-requires
+settle-requires c κs = search needs
+
+same-length-5 : tie.Need-same-length-5
+same-length-5 c = search needs
+
+same-length-6 : tie.Need-same-length-6
+same-length-6 c = search needs
+
+returns-3 : tie.Need-returns-3
+returns-3 c = let s = c .before .before .before .before .before .before .before .before .before .before .before in c .before .before .before .before .settle .ensures ∙ ap (λ (x : Call). callOf x (s .args .arena .now) (s .args .control .now)) (sym (c .before .before .before .before .before .before .before .enum-told .given .1))
+
+pub perform-spec : {M : Type 1} → statement M
+perform-spec =
+    tie.close
+    (tie.spec
+    enum-known-c
+    grant-requires
+    same-length
+    same-length-2
+    returns
+    enum-known-c-2
+    release-requires
+    same-length-3
+    same-length-4
+    returns-2
+    enum-told
+    settle-requires
+    same-length-5
+    same-length-6
+    returns-3)

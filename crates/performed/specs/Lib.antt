@@ -1,2 +1,0 @@
-pub mod Performed
-pub mod Sample

@@ -1,2 +1,0 @@
-pub mod Newcomer
-pub mod Keep

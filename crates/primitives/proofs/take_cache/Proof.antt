@@ -1,0 +1,91 @@
+-- `primitives::take_cache` meets its contract: `take-cache-gave` says what the head and its link come to. Assumes nothing.
+use mathlib.Core.Path.{refl}
+use Prim.Native.Nat.{_+_}
+use native.Mathlib.Omega.{arith}
+use lib.ListN.{length-set}
+use Rattle.primitives.specs.Stacks.{ok-length, cache-inside, cache-fits, cache-some, take-cache-gave}
+use borrow.Author.Needs.{needs}
+use Rattle.primitives.proofs.take_cache.Statement.{statement}
+use Rattle.primitives.proofs.take_cache.Tie as tie
+
+add-c : tie.Need-add-c
+add-c c = search needs
+
+mul-c : tie.Need-mul-c
+mul-c c = search needs
+
+slice-read-c : tie.Need-slice-read-c
+slice-read-c c = omega (arith, ok-length _ _ _ (c .before .before .before .pre .1 .ok))
+
+cast-c : tie.Need-cast-c
+cast-c c = let g = c .slice-known2 .given (3 + c .before .before .before .args .k) in search needs
+
+add-n : tie.Need-add-n
+add-n c = search needs
+
+mul-n : tie.Need-mul-n
+mul-n c = search needs
+
+slice-read-n : tie.Need-slice-read-n
+slice-read-n c = omega (arith, ok-length _ _ _ (c .before .before .before .before .pre .1 .ok))
+
+fwd-at-requires : tie.Need-fwd-at-requires
+fwd-at-requires c κs =
+    let s = c .before .before .before .before in
+    let i = cache-inside _ _ _ (s .pre .1 .ok) (s .args .k) (s .pre .0) (s .pre .1 .holds) in
+    (omega arith, omega arith)
+
+word-of-requires : tie.Need-word-of-requires
+word-of-requires c κs = let s = c .before .before .before .before .before in cache-fits _ _ _ (s .pre .1 .ok) (s .args .k) _ (s .pre .0) (s .pre .1 .holds) (c .fwd-at .ensures)
+
+add-r : tie.Need-add-r
+add-r c = search needs
+
+mul-r : tie.Need-mul-r
+mul-r c = search needs
+
+slice-write-r : tie.Need-slice-write-r
+slice-write-r c = omega (arith, ok-length _ _ _ (c .before .before .before .before .before .before .pre .1 .ok))
+
+sub-r : tie.Need-sub-r
+sub-r c = let s = c .before .before .before .before .before .before in cache-some _ _ _ (s .pre .1 .ok) (s .args .k) (s .pre .0) (s .pre .1 .holds)
+
+add-r-2 : tie.Need-add-r-2
+add-r-2 c = search needs
+
+mul-r-2 : tie.Need-mul-r-2
+mul-r-2 c = search needs
+
+slice-write-r-2 : tie.Need-slice-write-r-2
+slice-write-r-2 c = simp length-set (omega (arith, ok-length _ _ _ (c .before .before .before .before .before .before .pre .1 .ok)))
+
+same-length : tie.Need-same-length
+same-length c = search needs
+
+returns : tie.Need-returns
+returns c =
+    let s = c .before .before .before .before .before .before in
+    record { does = λ h o m. take-cache-gave h _ _ o (s .args .k) _ _ _ _ (s .pre .0) m refl (c .before .fwd-at .ensures) (c .word-of .ensures) refl }
+
+pub take-cache-spec : {M : Type 1} → statement M
+take-cache-spec =
+    tie.close
+    (tie.spec
+    add-c
+    mul-c
+    slice-read-c
+    cast-c
+    add-n
+    mul-n
+    slice-read-n
+    fwd-at-requires
+    word-of-requires
+    add-r
+    mul-r
+    slice-write-r
+    sub-r
+    add-r-2
+    mul-r-2
+    slice-write-r-2
+    same-length
+    returns)

@@ -1,0 +1,110 @@
+-- What the heap tells of a chunk that a list has or that no list has: where its four words lie, that its offset is a word of the record, and what the links
+-- that lead to it are on either side, arena or record. By the tiles' starts. Assumes nothing.
+use mathlib.Core.Path.{_≡_, refl, ap, _∙_}
+use mathlib.Core.Bool.{true}
+use mathlib.Core.List.{List, [], _∷_}
+use Prim.Native.Nat.{ℕ, zero, suc, _+_, _*_, _/_, _%_, _≤_, _<_, _^_}
+use native.Mathlib.Nat.{le-of-suc-le-suc, not-suc-le-zero}
+use native.Mathlib.Omega.{arith}
+use lib.ListN.{length, getD}
+use borrow.Author.Tests.{ne-eqb}
+use Rattle.le.specs.Arena.{arenaWords}
+use Rattle.le.specs.ArenaLaws.{length-arenaWords}
+use Rattle.sizes.specs.Limits.{none64, none32}
+use Rattle.sizes.specs.Layout.{fwdWord}
+use Rattle.machine.specs.Lists.{hd, lst, tl, some?, cnt}
+use Rattle.machine.specs.Count.{cnt-here, cnt-le-all, pigeons}
+use Rattle.machine.specs.Heap.{Heap, stack, bin, starts}
+use Rattle.machine.specs.View.{up, chunksFrom}
+use Rattle.sound.specs.Relation.{all, Mem, Shape, Loose, chain}
+use Rattle.sound.specs.Tiles.{starts-length}
+use Rattle.sound.specs.Frames.{Starts, starts-all, end-all, Grid, grid, in-starts}
+use Rattle.sound.specs.Lists.{lst-in}
+use Rattle.chunk_fields.specs.Links.{down}
+
+-- the chunk at c has its four words among the words w
+pub record Chunk (w : List ℕ) (c : ℕ) : Type 0 where
+  pub even : c % 16 ≡ 0
+  pub inside : c + 32 ≤ 8 * length w
+  pub small : c + 32 ≤ 262144
+
+-- and so among the bytes
+pub record Inside (n c : ℕ) : Type 0 where
+  pub even : c % 16 ≡ 0
+  pub high : c + 32 ≤ n
+  pub small : c + 32 ≤ 262144
+
+pub in-bytes : (a : List ℕ) (c : ℕ) → Chunk (arenaWords a) c → Inside (length a) c
+in-bytes a c k = record { even = k .even; high = omega (arith, k .inside, length-arenaWords a); small = k .small }
+
+module _ (h : Heap) (w : List ℕ) (s : Shape h) (m : Mem h w) where
+  pub start-chunk : (c : ℕ) → 1 ≤ cnt c (Starts h) → Chunk w c
+  start-chunk c i =
+      let g : Grid (Starts h) (length w) = grid h (length w) (s .fit) (m .long) in
+      let e : c % 16 ≡ 0 = g .even c i in
+      let n : c / 8 + 4 ≤ length w = g .inside c i in
+      record { even = e; inside = omega arith; small = omega (arith, m .long, s .small) }
+
+  -- a list of chunks is no longer than the words: each chunk has four of them
+  pub list-short : (l : List ℕ) → ((x : ℕ) → cnt x l ≤ cnt x (starts h)) → length l ≤ length w
+  list-short l c = omega (arith, pigeons l (Starts h) (λ x. omega (arith, c x, starts-all h x)), starts-length 0 (all h) (s .fit), end-all h (s .fit), m .long)
+
+  pub loose-chunk : (c : ℕ) → Loose h c → Chunk w c
+  loose-chunk c l = start-chunk c (omega (arith, starts-all h c))
+
+  pub stack-chunk : (k c : ℕ) → 1 ≤ cnt c (stack h k) → Chunk w c
+  stack-chunk k c i = start-chunk c (in-starts h c s (omega (arith, cnt-le-all c (h .stacks) k)))
+
+  pub bin-chunk : (j c : ℕ) → 1 ≤ cnt c (bin h j) → Chunk w c
+  bin-chunk j c i = start-chunk c (in-starts h c s (omega (arith, cnt-le-all c (h .bins) j)))
+
+-- ---- none on either side
+abbrev pub Chunks : List ℕ → List ℕ → Type 0
+Chunks w l = (x : ℕ) → 1 ≤ cnt x l → Chunk w x
+
+pub down-chunk : (w : List ℕ) (c : ℕ) → Chunk w c → down c ≡ c
+down-chunk w c k = rw (ne-eqb c none64 (λ e. omega (arith, k .small)), down)
+
+pub up-hd : (w l : List ℕ) → Chunks w l → up (hd none32 l) ≡ hd none64 l
+up-hd w [] k = refl
+up-hd w (x ∷ l) k = rw (ne-eqb x none32 (λ e. omega (arith, k x (cnt-here x l) .small)), up)
+
+pub down-hd : (w l : List ℕ) → Chunks w l → down (hd none64 l) ≡ hd none32 l
+down-hd w [] k = refl
+down-hd w (x ∷ l) k = down-chunk w x (k x (cnt-here x l))
+
+pub down-lst : (w l : List ℕ) → Chunks w l → down (lst none64 l) ≡ lst none32 l
+down-lst w [] k = refl
+down-lst w (x ∷ l) k = down-chunk w (lst x l) (k (lst x l) (lst-in x l))
+
+pub hd-fits : (w l : List ℕ) → Chunks w l → hd none32 l < 2 ^ 32
+hd-fits w [] k = omega arith
+hd-fits w (x ∷ l) k = omega (arith, k x (cnt-here x l) .small)
+
+pub lst-fits : (w l : List ℕ) → Chunks w l → lst none32 l < 2 ^ 32
+lst-fits w [] k = omega arith
+lst-fits w (x ∷ l) k = omega (arith, k (lst x l) (lst-in x l) .small)
+
+-- ---- the head of a list that has one
+pub record Head (w l : List ℕ) : Type 0 where
+  pub here : Chunk w (hd none32 l)
+  pub same : hd none64 l ≡ hd none32 l
+  pub next : down (getD w (fwdWord (hd none32 l)) 0) ≡ hd none32 (tl l)
+  pub fits : down (getD w (fwdWord (hd none32 l)) 0) < 2 ^ 32
+  pub more : length l ≡ suc (length (tl l))
+
+pub head : (w l : List ℕ) → some? l ≡ true → Chunks w l → chain w l → Head w l
+head w [] e k c = let z : _≡_ {A = ℕ} 0 1 = cc in absurd (omega arith)
+head w (x ∷ l) e k c =
+    let t : Chunks w l = λ y i. k y (omega arith) in
+    let d : down (getD w (fwdWord x) 0) ≡ hd none32 l = ap down (c .0) ∙ down-hd w l t in
+    record { here = k x (cnt-here x l); same = refl; next = d; fits = rw d (hd-fits w l t); more = refl }
+
+-- ---- along the links the walk finds the list, if it may go that far
+pub walk-list : (n : ℕ) (w l : List ℕ) → length l ≤ n → Chunks w l → chain w l → chunksFrom n w (hd none64 l) ≡ l
+walk-list zero w [] f k c = refl
+walk-list zero w (x ∷ l) f k c = absurd (not-suc-le-zero f)
+walk-list (suc n) w [] f k c = refl
+walk-list (suc n) w (x ∷ l) f k c =
+    rw (ne-eqb x none64 (λ e. omega (arith, k x (cnt-here x l) .small)), chunksFrom)
+    (ap (λ (m : List ℕ). x ∷ m) (ap (chunksFrom n w) (c .0) ∙ walk-list n w l (le-of-suc-le-suc f) (λ y i. k y (omega arith)) (c .1)))

@@ -1,0 +1,10 @@
+pub mod Follow
+pub mod FollowLaws
+pub mod Reach
+pub mod Places
+pub mod Chunks
+pub mod Ends
+pub mod Stacks
+pub mod Heads
+pub mod Bins
+pub mod Sizes

@@ -1,0 +1,202 @@
+// What a line, a byte and the end of the script do: each is a step of specs/Run.antt on the same bytes. Assumes nothing.
+ghost use mathlib.Core.Path.{_≡_};
+ghost use Prim.Native.Nat.{_+_, _≤_};
+ghost use lib.ListN.{length, take};
+ghost use Rattle.machine.specs.Calls.{after};
+ghost use Rattle.script_run.specs.Run.{step, callOf, called, lengthOf, topAfter, counted, ranStep, lineStep, byteStep, endStep, runOf, Lent, Within};
+use machine::Answer;
+use script::Line;
+use script::LineText;
+
+// A run between two bytes: the line that is being read, how many lines were run, how long the opened arena is, whether the run has ended, and how many
+// bytes of the output buffer the last step printed.
+pub struct Log {
+    pub text: LineText,
+    pub lines: u64,
+    pub opened: usize,
+    pub ended: bool,
+    pub printed: usize,
+}
+
+// The call of a line, on the arena that it opens or that was opened.
+fn call(arena: &mut [u8], control: &mut [u8], line: Line) -> Answer
+    ensures { λ x. ⌜ after (now (arena .exit)) (now (control .exit)) x ≡ callOf (now (arena .entry)) (now (control .entry)) line ⌝ }
+{
+    match line {
+        Line::Open(_) => {
+            return calls::open(arena, control);
+        }
+        Line::Grant(n) => {
+            return calls::grant(arena, control, n as u64);
+        }
+        Line::Release(m) => {
+            return calls::release(arena, control, m as u64);
+        }
+        Line::Settle => {
+            return calls::settle(arena, control);
+        }
+        Line::Other => {
+            return Answer::Done;
+        }
+    }
+}
+
+// The same, on the first n of the bytes that are lent.
+fn call_within(arena: &mut [u8], control: &mut [u8], n: usize, line: Line) -> Answer
+    requires { ⌜ n ≤ length (now arena) ⌝ }
+    ensures { λ x. ⌜ after (now (arena .exit)) (now (control .exit)) x ≡ called (now (arena .entry)) (now (control .entry)) n line ⌝ }
+{
+    call(&mut arena[..n], control, line)
+}
+
+fn length_of(line: Line, opened: usize) -> usize
+    ensures { λ n. ⌜ n ≡ lengthOf line opened ⌝ }
+{
+    match line {
+        Line::Open(n) => n as usize,
+        Line::Grant(_) => opened,
+        Line::Release(_) => opened,
+        Line::Settle => opened,
+        Line::Other => opened,
+    }
+}
+
+fn top_after(ended: bool, control: &[u8]) -> u32
+    requires { ⌜ 8 ≤ length (now control) ⌝ }
+    ensures { λ t. ⌜ t ≡ topAfter ended (now (control .entry)) ⌝ }
+{
+    if ended {
+        return 0;
+    }
+    le::read4(control, 4)
+}
+
+fn count(k: u64) -> u64
+    ensures { λ r. ⌜ r ≡ counted k ⌝ }
+{
+    if k < 18446744073709551615 {
+        return k + 1;
+    }
+    k
+}
+
+// Runs a line that is in its place: the k-th, on an arena of n bytes.
+fn run_placed(
+    k: u64,
+    n: usize,
+    line: Line,
+    arena: &mut [u8],
+    control: &mut [u8],
+    out: &mut [u8],
+) -> Log
+    requires { ⌜ Lent (now arena) (now control) (now out) ⌝ }
+    requires { ⌜ n ≤ 49152 ⌝ }
+    ensures { λ s. ⌜ step (runOf (now (arena .exit)) (now (control .exit)) s) (take (s .printed) (now (out .exit)))
+        ≡ ranStep line k n (called (now (arena .entry)) (now (control .entry)) n line) ⌝ }
+    ensures { λ s. ⌜ Within s (now (out .exit)) ⌝ }
+{
+    let x = call_within(arena, control, n, line);
+    let ended = script::ends_by(line, x);
+    let top = top_after(ended, control);
+    let letter = script::letter_of(line);
+    let printed = script_format::put_answer(out, letter, x, top);
+    let text = script_reader::no_bytes();
+    Log {
+        text,
+        lines: k,
+        opened: n,
+        ended,
+        printed,
+    }
+}
+
+// Runs the line that was read; one that is not in its place prints `? k` and ends the run.
+fn run_line(log: Log, arena: &mut [u8], control: &mut [u8], out: &mut [u8]) -> Log
+    requires { ⌜ Lent (now arena) (now control) (now out) ⌝ }
+    requires { ⌜ log .opened ≤ 49152 ⌝ }
+    ensures { λ s. ⌜ step (runOf (now (arena .exit)) (now (control .exit)) s) (take (s .printed) (now (out .exit)))
+        ≡ lineStep (runOf (now (arena .entry)) (now (control .entry)) log) ⌝ }
+    ensures { λ s. ⌜ Within s (now (out .exit)) ⌝ }
+{
+    let k = count(log.lines);
+    let opened = log.opened;
+    let read = log.text;
+    let line = script_reader::line_read(read);
+    if script::in_place(k, line) {
+        let n = length_of(line, opened);
+        return run_placed(k, n, line, arena, control, out);
+    }
+    let printed = script_format::put_question(out, k);
+    let text = script_reader::no_bytes();
+    Log {
+        text,
+        lines: k,
+        opened,
+        ended: true,
+        printed,
+    }
+}
+
+// One byte of the script. Nothing follows the end of the run.
+pub fn feed(log: Log, b: u8, arena: &mut [u8], control: &mut [u8], out: &mut [u8]) -> Log
+    requires { ⌜ Lent (now arena) (now control) (now out) ⌝ }
+    requires { ⌜ log .opened ≤ 49152 ⌝ }
+    ensures { λ s. ⌜ step (runOf (now (arena .exit)) (now (control .exit)) s) (take (s .printed) (now (out .exit)))
+        ≡ byteStep b (runOf (now (arena .entry)) (now (control .entry)) log) ⌝ }
+    ensures { λ s. ⌜ Within s (now (out .exit)) ⌝ }
+{
+    let ended = log.ended;
+    let read = log.text;
+    if ended {
+        return Log {
+            text: read,
+            lines: log.lines,
+            opened: log.opened,
+            ended,
+            printed: 0,
+        };
+    }
+    if b == b'\n' {
+        return run_line(log, arena, control, out);
+    }
+    let text = script_reader::feed(read, b);
+    Log {
+        text,
+        lines: log.lines,
+        opened: log.opened,
+        ended,
+        printed: 0,
+    }
+}
+
+// The end of the script: a last line without its newline.
+pub fn finish(log: Log, arena: &mut [u8], control: &mut [u8], out: &mut [u8]) -> Log
+    requires { ⌜ Lent (now arena) (now control) (now out) ⌝ }
+    requires { ⌜ log .opened ≤ 49152 ⌝ }
+    ensures { λ s. ⌜ step (runOf (now (arena .exit)) (now (control .exit)) s) (take (s .printed) (now (out .exit)))
+        ≡ endStep (runOf (now (arena .entry)) (now (control .entry)) log) ⌝ }
+    ensures { λ s. ⌜ Within s (now (out .exit)) ⌝ }
+{
+    let ended = log.ended;
+    let text = log.text;
+    let len = text.len;
+    if ended {
+        return Log {
+            text,
+            lines: log.lines,
+            opened: log.opened,
+            ended,
+            printed: 0,
+        };
+    }
+    if len == 0 {
+        return Log {
+            text,
+            lines: log.lines,
+            opened: log.opened,
+            ended,
+            printed: 0,
+        };
+    }
+    run_line(log, arena, control, out)
+}
