@@ -22,7 +22,7 @@ pub record ListsDone (w r : List ℕ) (f : Audited) (m : List ℕ) : Type 0 wher
   pub is : f ≡ listFault w r 0 (startsOf w) (listsOf w r)
   pub marks : f ≡ A.Sound → Marks w m (minusAll (startsOf w) (listsOf w r)) (binnedOf w r)
 
--- the whole: the machine's answer, and where that is sound, mark 1 exactly at the live blocks
+-- the whole: the machine's answer, and where that is sound, the unmet chunks exactly the live blocks
 pub record AuditDone (w r : List ℕ) (f : Audited) (m : List ℕ) : Type 0 where
   pub is : f ≡ auditOf w r
   pub live : f ≡ A.Sound → (x : ℕ) → unmet m x ≡ live? (view w r) x

@@ -15,7 +15,7 @@ use Rattle.sizes.specs.Layout.{cacheCount, binLast, backWord}
 use Rattle.machine.specs.Lists.{either, hd, lst, cnt}
 use Rattle.machine.specs.Count.{eq?, ind-other, cnt-here, cnt-there}
 use Rattle.machine.specs.View.{sizeAt, up, kindAt}
-use Rattle.machine.specs.Audit.{fits}
+use Rattle.machine.specs.Audit.{mayStand}
 use Rattle.machine.specs.declared.ListKind.the-variants.{Cache, Fast, Bin}
 use Rattle.sound.specs.Relation.{chain, links, falls}
 use Rattle.sound.specs.Tiles.{lt-or-le}
@@ -60,7 +60,7 @@ cache-out k w r p n (c ∷ l) h s =
 pub cache-in : (k : ℕ) (w r : List ℕ) (p n : ℕ) (l : List ℕ) → CacheListed k w r n l → suits (Cache k) w r p n l
 cache-in k w r p n [] s = eq-eqb (getD r (cacheCount k) 0) n (s .counted ∙ omega arith)
 cache-in k w r p n (c ∷ l) s = (
-  rw (eq-eqb (sizeAt w c) (32 + 16 * k) (s .own c (cnt-here c l)), fits) (lt-ltb n 7 (omega (arith, s .most))),
+  rw (eq-eqb (sizeAt w c) (32 + 16 * k) (s .own c (cnt-here c l)), mayStand) (lt-ltb n 7 (omega (arith, s .most))),
   cache-in k w r c (suc n) l (record { own = λ x m. s .own x (cnt-there x c l m); counted = omega (arith, s .counted); most = omega (arith, s .most) }),
 )
 
@@ -82,18 +82,18 @@ fast-out k w r p n (c ∷ l) s =
 pub fast-in : (k : ℕ) (w r : List ℕ) (p n : ℕ) (l : List ℕ) → FastListed k w l → suits (Fast k) w r p n l
 fast-in k w r p n [] s = refl
 fast-in k w r p n (c ∷ l) s = (
-  rw (eq-eqb (sizeAt w c) (32 + 16 * k) (s .own c (cnt-here c l)), fits) (le-leb (sizeAt w c) 128 (s .most c (cnt-here c l))),
+  rw (eq-eqb (sizeAt w c) (32 + 16 * k) (s .own c (cnt-here c l)), mayStand) (le-leb (sizeAt w c) 128 (s .most c (cnt-here c l))),
   fast-in k w r c (suc n) l (record { own = λ x m. s .own x (cnt-there x c l m); most = λ x m. s .most x (cnt-there x c l m) }),
 )
 
 -- ---- a chunk in a bin, after p
-record BinFits (j : ℕ) (w : List ℕ) (p c : ℕ) : Type 0 where
+record BinStands (j : ℕ) (w : List ℕ) (p c : ℕ) : Type 0 where
   own : (j ≡ 1) ⊎ (binOf (sizeAt w c) ≡ j)
   back : getD w (backWord c) 0 ≡ p
   order : 64 ≤ j → (p ≡ none64 → ⊥) → sizeAt w c ≤ sizeAt w p
 
-bin-fits : (j : ℕ) (w : List ℕ) (p n c : ℕ) → fits (Bin j) w p n c ≡ true → BinFits j w p c
-bin-fits j w p n c e =
+bin-stands : (j : ℕ) (w : List ℕ) (p n c : ℕ) → mayStand (Bin j) w p n c ≡ true → BinStands j w p c
+bin-stands j w p n c e =
     let x = both-true (either (eqb j 1) (eqb (binOf (sizeAt w c)) j)) _ e in
     let y = both-true (eqb (getD w (backWord c) 0) p) _ (x .1) in
     record {
@@ -104,13 +104,13 @@ bin-fits j w p n c e =
           (either-true (ltb j 64) _ (y .1));
     }
 
-fits-bin : (j : ℕ) (w : List ℕ) (p n c : ℕ) → BinFits j w p c → fits (Bin j) w p n c ≡ true
-fits-bin j w p n c k =
+stands-bin : (j : ℕ) (w : List ℕ) (p n c : ℕ) → BinStands j w p c → mayStand (Bin j) w p n c ≡ true
+stands-bin j w p n c k =
     let o : either (eqb j 1) (eqb (binOf (sizeAt w c)) j) ≡ true =
     ⊎-elim (λ z. either-left (eqb j 1) _ (eq-eqb j 1 z)) (λ z. either-right (eqb j 1) _ (eq-eqb (binOf (sizeAt w c)) j z)) (k .own) in
     let f : either (ltb j 64) (either (eqb p none64) (leb (sizeAt w c) (sizeAt w p))) ≡ true =
     ⊎-elim (λ z. either-left (ltb j 64) _ (lt-ltb j 64 z)) (λ z. either-right (ltb j 64) _ (last z (eqb p none64) refl)) (lt-or-le j 64) in
-    rw (o, fits) (rw (eq-eqb (getD w (backWord c) 0) p (k .back)) f)
+    rw (o, mayStand) (rw (eq-eqb (getD w (backWord c) 0) p (k .back)) f)
   where
     last : 64 ≤ j → (q : Bool) → eqb p none64 ≡ q → either q (leb (sizeAt w c) (sizeAt w p)) ≡ true
     last h true e = refl
@@ -133,7 +133,7 @@ bin-out j w r p n [] h c s = record {
   last = eqb-true (up (getD r (binLast j) 0)) p s;
 }
 bin-out j w r p n (c ∷ l) h ch s =
-    let k = bin-fits j w p n c (s .0) in
+    let k = bin-stands j w p n c (s .0) in
     let t = bin-out j w r c (suc n) l (λ x m. h x (cnt-there x c l m)) (ch .1) (s .1) in
     let under : 64 ≤ j → (x : ℕ) → 1 ≤ cnt x l → sizeAt w x ≤ sizeAt w c = λ g. t .below g (h c (cnt-here c l)) in
     record {
@@ -154,7 +154,7 @@ bin-in j w r p n (c ∷ l) k =
       below = λ g _. k .falling g .0;
       last = k .last;
     }) in
-    ((k .link .0, t .0), (fits-bin j w p n c (record { own = k .own c (cnt-here c l); back = k .link .1; order = λ g q. k .below g q c (cnt-here c l) }), t .1))
+    ((k .link .0, t .0), (stands-bin j w p n c (record { own = k .own c (cnt-here c l); back = k .link .1; order = λ g q. k .below g q c (cnt-here c l) }), t .1))
 
 -- ---- a word of the record, and the link of the arena that stands for it
 up-small : (x : ℕ) → x < 262144 → up x ≡ x

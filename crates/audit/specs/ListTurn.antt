@@ -14,11 +14,12 @@ use Rattle.sizes.specs.Layout.{fwdWord}
 use Rattle.machine.specs.Lists.{both, cnt, cntAll, has?, without, minus, tabulate}
 use Rattle.machine.specs.Count.{without-length}
 use Rattle.machine.specs.View.{sizeAt, up, kindAt, headWord, chunksFrom, listAt}
-use Rattle.machine.specs.Audit.{fits, mayEnd, goodFrom, listFault}
+use Rattle.machine.specs.Audit.{mayStand, mayEnd, goodFrom, listFault}
 use Rattle.machine.specs.declared.ListKind.{ListKind}
 use Rattle.machine.specs.declared.ListKind.the-variants.{Cache, Fast, Bin}
 use Rattle.machine.specs.declared.Audited.{Audited}
 use Rattle.machine.specs.declared.Audited.the-variants as A
+use Rattle.audit_lists.specs.Owns.{Numbered}
 use Rattle.audit_lists.specs.Listed.{unmet, markOf, tailWord}
 use Rattle.audit_empty_lists.specs.Skips.{Empty, Skipped}
 use Rattle.audit_walks.specs.Tests.{not-sound}
@@ -133,14 +134,14 @@ chunks-end : (f : ℕ) (w : List ℕ) (c : ℕ) → c ≡ none64 → chunksFrom 
 chunks-end zero w c e = refl
 chunks-end (suc f) w c e = rw (eq-eqb c none64 e, chunksFrom)
 
-resume-bad : (w r : List ℕ) (k : ListKind) (i : ℕ) (left : List ℕ) (p n c : ℕ) (l : List ℕ) (ls : List (List ℕ)) → both (has? c left) (fits k w p n c) ≡ false
+resume-bad : (w r : List ℕ) (k : ListKind) (i : ℕ) (left : List ℕ) (p n c : ℕ) (l : List ℕ) (ls : List (List ℕ)) → both (has? c left) (mayStand k w p n c) ≡ false
     → resume w r k i left p n (c ∷ l) ls ≡ A.List k
 unfolding goodFrom
 resume-bad w r k i left p n c l ls e =
     let g : goodFrom k w r left p n (c ∷ l) ≡ false = ap (λ (z : Bool). both z (goodFrom k w r (without c left) c (suc n) l)) e in
     rw (g, resume)
 
-resume-more : (w r : List ℕ) (k : ListKind) (i : ℕ) (left : List ℕ) (p n c : ℕ) (l : List ℕ) (ls : List (List ℕ)) → both (has? c left) (fits k w p n c) ≡ true
+resume-more : (w r : List ℕ) (k : ListKind) (i : ℕ) (left : List ℕ) (p n c : ℕ) (l : List ℕ) (ls : List (List ℕ)) → both (has? c left) (mayStand k w p n c) ≡ true
     → resume w r k i left p n (c ∷ l) ls ≡ resume w r k i (without c left) c (suc n) l ls
 unfolding goodFrom
 resume-more w r k i left p n c l ls e =
@@ -156,7 +157,7 @@ unfolding goodFrom
 end-true w r k i left p n ls h = let g : goodFrom k w r left p n [] ≡ true = h in rw (g, resume)
 
 module _ (w r m : List ℕ) (k : ListKind) (i p q n c : ℕ) (o : In w r m k i p q n c) where
-  list-bad : (m′ : List ℕ) → (c ≡ none64 → ⊥) → both (has? c (o .left)) (fits k w p n c) ≡ false → ListsDone w r (A.List k) m′
+  list-bad : (m′ : List ℕ) → (c ≡ none64 → ⊥) → both (has? c (o .left)) (mayStand k w p n c) ≡ false → ListsDone w r (A.List k) m′
   list-bad m′ ne e = go (o .f) (o .fuel) (o .same)
     where
       go : (f : ℕ) → length (o .left) < f → resume w r k i (o .left) p n (chunksFrom f w c) (drop (suc i) (listsOf w r)) ≡ whole w r → ListsDone w r (A.List k) m′
@@ -167,24 +168,24 @@ module _ (w r m : List ℕ) (k : ListKind) (i p q n c : ℕ) (o : In w r m k i p
         marks = λ y. not-sound (A.List k) refl y;
       }
 
-  -- c is no chunk, or was met; c does not fit
+  -- c is no chunk, or was met; c may not stand there
   pub list-met : (v : Bool) (m′ : List ℕ) → (c ≡ none64 → ⊥) → v ≡ unmet m c → v ≡ false → ListsDone w r (A.List k) m′
   list-met v m′ ne e z =
       let h : has? c (o .left) ≡ false = sym (unmet-has w m (o .left) (o .b) (o .marks) c) ∙ sym e ∙ z in
-      list-bad m′ ne (ap (λ (y : Bool). both y (fits k w p n c)) h)
+      list-bad m′ ne (ap (λ (y : Bool). both y (mayStand k w p n c)) h)
 
   has-true : (v : Bool) → v ≡ unmet m c → v ≡ true → has? c (o .left) ≡ true
   has-true v e z = sym (unmet-has w m (o .left) (o .b) (o .marks) c) ∙ sym e ∙ z
 
-  pub list-unfit : (v u : Bool) (m′ : List ℕ) → (c ≡ none64 → ⊥) → v ≡ unmet m c → v ≡ true → u ≡ fits k w p n c → u ≡ false → ListsDone w r (A.List k) m′
-  list-unfit v u m′ ne e z g y = list-bad m′ ne (ap (λ (x : Bool). both x (fits k w p n c)) (has-true v e z) ∙ sym g ∙ y)
+  pub list-misplaced : (v u : Bool) (m′ : List ℕ) → (c ≡ none64 → ⊥) → v ≡ unmet m c → v ≡ true → u ≡ mayStand k w p n c → u ≡ false → ListsDone w r (A.List k) m′
+  list-misplaced v u m′ ne e z g y = list-bad m′ ne (ap (λ (x : Bool). both x (mayStand k w p n c)) (has-true v e z) ∙ sym g ∙ y)
 
-  pub list-turn : (v u : Bool) (s : ℕ) → (c ≡ none64 → ⊥) → v ≡ unmet m c → v ≡ true → u ≡ fits k w p n c → u ≡ true → s ≡ sizeAt w c
+  pub list-turn : (v u : Bool) (s : ℕ) → (c ≡ none64 → ⊥) → v ≡ unmet m c → v ≡ true → u ≡ mayStand k w p n c → u ≡ true → s ≡ sizeAt w c
       → In w r (set m (c / 16) (markOf k)) k i c s (n + 1) (getD w (fwdWord c) 0)
   list-turn v u s ne e z d y sz = go (o .f) (o .fuel) (o .same) (o .rest) (o .bins)
     where
-      tested : both (has? c (o .left)) (fits k w p n c) ≡ true
-      tested = ap (λ (x : Bool). both x (fits k w p n c)) (has-true v e z) ∙ sym d ∙ y
+      tested : both (has? c (o .left)) (mayStand k w p n c) ≡ true
+      tested = ap (λ (x : Bool). both x (mayStand k w p n c)) (has-true v e z) ∙ sym d ∙ y
 
       g : length (o .left) ≡ suc (length (without c (o .left)))
       g = without-length c (o .left) (unmet-inside w m (o .left) (o .b) (o .marks) c (sym e ∙ z) .2)
@@ -274,6 +275,7 @@ lists-done w r m i h l o =
     }
 
 -- the record has the words of list i
+-- a list's words are within the record, and a bin has a number
 pub kind-words : (k : ListKind) (i : ℕ) → k ≡ kindAt i → i < 200 → (headWord k < 393) × (tailWord k < 393)
 kind-words k i e h = subst (λ (z : ListKind). (headWord z < 393) × (tailWord z < 393)) (sym e) (go (ltb i 64) (ltb i 74) refl refl)
   where
@@ -283,3 +285,11 @@ kind-words k i e h = subst (λ (z : ListKind). (headWord z < 393) × (tailWord z
     go true b p q = let l = ltb-true i 64 p in (omega arith, omega arith)
     go false true p q = let l = ltb-true i 74 q in (omega arith, omega arith)
     go false false p q = (omega arith, omega arith)
+
+pub kind-numbered : (k : ListKind) (i : ℕ) → k ≡ kindAt i → i < 200 → Numbered k
+kind-numbered k i e h = subst Numbered (sym e) (go (ltb i 64) (ltb i 74) refl)
+  where
+    go : (a b : Bool) → ltb i 74 ≡ b → Numbered (elim a [ true ↦ Cache i | false ↦ elim b [ true ↦ Fast (i - 64) | false ↦ Bin (i - 73) ] ])
+    go true b q = tt
+    go false true q = tt
+    go false false q = let l = ltb-false i 74 q in (omega arith, omega arith)

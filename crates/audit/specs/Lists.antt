@@ -14,7 +14,7 @@ use Rattle.sizes.specs.Layout.{fwdWord}
 use Rattle.machine.specs.Lists.{both, hd, cnt, cntAll, has?, without, minus, tabulate}
 use Rattle.machine.specs.Count.{ind-same, cnt-here, cnt-there, without-cnt, without-length}
 use Rattle.machine.specs.View.{up, chunksFrom, kindAt, headWord, listAt}
-use Rattle.machine.specs.Audit.{fits, mayEnd, goodFrom, listFault}
+use Rattle.machine.specs.Audit.{mayStand, mayEnd, goodFrom, listFault}
 use Rattle.machine.specs.declared.ListKind.{ListKind}
 use Rattle.machine.specs.declared.Audited.the-variants as A
 use Rattle.sound.specs.Relation.{chain}
@@ -24,7 +24,7 @@ use Rattle.audit_walks.specs.Tests.{sound-if}
 -- each chunk may stand where it stands, and the list may end where it ends
 abbrev pub suits : ListKind → List ℕ → List ℕ → ℕ → ℕ → List ℕ → Type 0
 suits k w r p n [] = mayEnd k r p n ≡ true
-suits k w r p n (c ∷ l) = (fits k w p n c ≡ true) × suits k w r c (suc n) l
+suits k w r p n (c ∷ l) = (mayStand k w p n c ≡ true) × suits k w r c (suc n) l
 
 record Listed (k : ListKind) (w r left : List ℕ) (p n c : ℕ) (l : List ℕ) : Type 0 where
   head : c ≡ hd none64 l
@@ -52,8 +52,8 @@ list-sound (suc f) k w r left p n c b e =
         → (b : Bool) → eqb c none64 ≡ b → goodFrom k w r left p n (body b) ≡ true → Listed k w r left p n c (body b)
     go s true q e = record { head = eqb-true c none64 q; links = tt; good = e; cnts = λ x. omega arith; len = omega arith }
     go s false q e =
-        let t = both-true (both (has? c left) (fits k w p n c)) _ e in
-        let u = both-true (has? c left) (fits k w p n c) (t .0) in
+        let t = both-true (both (has? c left) (mayStand k w p n c)) _ e in
+        let u = both-true (has? c left) (mayStand k w p n c) (t .0) in
         let i : 1 ≤ cnt c left = ltb-true 0 (cnt c left) (u .0) in
         let g : length left ≡ suc (length (without c left)) = without-length c left i in
         let y = s (t .1) (omega arith) in

@@ -2,9 +2,10 @@
 use mathlib.Core.Path.{_≡_, refl, sym, ap, _∙_}
 use mathlib.Core.Bool.{Bool, true, false}
 use mathlib.Core.List.{List}
-use Prim.Native.Nat.{ℕ, _-_}
+use Prim.Native.Nat.{ℕ}
 use native.Mathlib.Omega.{arith}
 use lib.Dec.{leb}
+use Rattle.sizes.specs.Offsets.{chunkOf}
 use Rattle.machine.specs.Lists.{both}
 use Rattle.machine.specs.Heap.{live?}
 use Rattle.machine.specs.View.{view}
@@ -19,7 +20,7 @@ use Rattle.audit.specs.declared.Look.the-variants.{Faulty, NotLive, Live
 
 -- whether mem is a live block's: tested in 64 bits, never cut
 abbrev pub liveMem? : List ℕ → List ℕ → ℕ → Bool
-liveMem? w r m = both (leb 16 m) (live? (view w r) (m - 16))
+liveMem? w r m = both (leb 16 m) (live? (view w r) (chunkOf m))
 
 unfoldable pub lookAt : List ℕ → List ℕ → ℕ → Look
 lookAt w r m = elim (sound? (auditOf w r)) [ true ↦ elim (liveMem? w r m) [ true ↦ Live | false ↦ NotLive ] | false ↦ Faulty (auditOf w r) ]
@@ -32,21 +33,21 @@ look-faulty w r f m mem d e =
     ∙ ap (λ (t : Bool). elim t [ true ↦ elim (liveMem? w r mem) [ true ↦ Live | false ↦ NotLive ] | false ↦ Faulty (auditOf w r) ]) (sym (ap sound? (sym (d .is)) ∙ e))
 
 -- what the marks say of mem, in a sound heap
-live-marks : (w r : List ℕ) (f : Audited) (m : List ℕ) (mem : ℕ) → AuditDone w r f m → sound? f ≡ true → both (leb 16 mem) (unmet m (mem - 16)) ≡ liveMem? w r mem
-live-marks w r f m mem d e = ap (both (leb 16 mem)) (d .live (is-sound f e) (mem - 16))
+live-marks : (w r : List ℕ) (f : Audited) (m : List ℕ) (mem : ℕ) → AuditDone w r f m → sound? f ≡ true → both (leb 16 mem) (unmet m (chunkOf mem)) ≡ liveMem? w r mem
+live-marks w r f m mem d e = ap (both (leb 16 mem)) (d .live (is-sound f e) (chunkOf mem))
 
-look-sound : (w r : List ℕ) (f : Audited) (m : List ℕ) (mem : ℕ) (t : Bool) → AuditDone w r f m → sound? f ≡ true → t ≡ both (leb 16 mem) (unmet m (mem - 16))
+look-sound : (w r : List ℕ) (f : Audited) (m : List ℕ) (mem : ℕ) (t : Bool) → AuditDone w r f m → sound? f ≡ true → t ≡ both (leb 16 mem) (unmet m (chunkOf mem))
     → elim t [ true ↦ Live | false ↦ NotLive ] ≡ lookAt w r mem
 unfolding lookAt
 look-sound w r f m mem t d e q =
     ap (λ (x : Bool). elim x [ true ↦ Live | false ↦ NotLive ]) (q ∙ live-marks w r f m mem d e)
     ∙ ap (λ (t : Bool). elim t [ true ↦ elim (liveMem? w r mem) [ true ↦ Live | false ↦ NotLive ] | false ↦ Faulty (auditOf w r) ]) (sym (ap sound? (sym (d .is)) ∙ e))
 
-pub look-live : (w r : List ℕ) (f : Audited) (m : List ℕ) (mem : ℕ) (t : Bool) → AuditDone w r f m → sound? f ≡ true → t ≡ both (leb 16 mem) (unmet m (mem - 16)) → t ≡ true
+pub look-live : (w r : List ℕ) (f : Audited) (m : List ℕ) (mem : ℕ) (t : Bool) → AuditDone w r f m → sound? f ≡ true → t ≡ both (leb 16 mem) (unmet m (chunkOf mem)) → t ≡ true
     → Live ≡ lookAt w r mem
 look-live w r f m mem t d e q z = ap (λ (x : Bool). elim x [ true ↦ Live | false ↦ NotLive ]) (sym z) ∙ look-sound w r f m mem t d e q
 
-pub look-dead : (w r : List ℕ) (f : Audited) (m : List ℕ) (mem : ℕ) (t : Bool) → AuditDone w r f m → sound? f ≡ true → t ≡ both (leb 16 mem) (unmet m (mem - 16)) → t ≡ false
+pub look-dead : (w r : List ℕ) (f : Audited) (m : List ℕ) (mem : ℕ) (t : Bool) → AuditDone w r f m → sound? f ≡ true → t ≡ both (leb 16 mem) (unmet m (chunkOf mem)) → t ≡ false
     → NotLive ≡ lookAt w r mem
 look-dead w r f m mem t d e q z = ap (λ (x : Bool). elim x [ true ↦ Live | false ↦ NotLive ]) (sym z) ∙ look-sound w r f m mem t d e q
 

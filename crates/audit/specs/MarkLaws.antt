@@ -1,5 +1,5 @@
--- Laws of the marks: mark 1 stands exactly at the chunks not met, a chunk that is met gets its list's mark, and then fewer marks are 1. Linear in counts.
--- Assumes nothing.
+-- Laws of the marks: a mark says that a chunk was not met exactly where that is so, a chunk that is met gets its list's mark, and then fewer are not met.
+-- Linear in counts. Assumes nothing.
 use mathlib.Core.Path.{_≡_, refl, sym, ap, _∙_}
 use mathlib.Core.List.{List, [], _∷_}
 use mathlib.Core.Logic.{⊎-elim}
@@ -18,7 +18,7 @@ use Rattle.machine.specs.declared.ListKind.the-variants.{Cache, Fast, Bin}
 use Rattle.audit_lists.specs.Listed.{unmet, markOf}
 use Rattle.sound.specs.Tiles.{zero-or, lt-or-le}
 use Rattle.sound.specs.Release.{both-true}
-use Rattle.audit_walks.specs.Marks.{Marks, binAt}
+use Rattle.audit_walks.specs.Marks.{unmetMark, stackedMark, binnedMark, Marks, binAt}
 
 -- the chunks that go to bins
 abbrev pub binCnt : ListKind → ℕ → List ℕ → ℕ
@@ -28,16 +28,16 @@ binCnt (Bin j) x l = cnt x l
 
 module _ (w m left : List ℕ) (b : ℕ → ℕ) (k : Marks w m left b) where
   pub unmet-has : (c : ℕ) → unmet m c ≡ has? c left
-  unmet-has c = go (eqb (c % 16) 0) (eqb (getD m (c / 16) 0) 1) refl refl
+  unmet-has c = go (eqb (c % 16) 0) (eqb (getD m (c / 16) 0) unmetMark) refl refl
     where
-      go : (x y : Bool) → eqb (c % 16) 0 ≡ x → eqb (getD m (c / 16) 0) 1 ≡ y → both x y ≡ has? c left
+      go : (x y : Bool) → eqb (c % 16) 0 ≡ x → eqb (getD m (c / 16) 0) unmetMark ≡ y → both x y ≡ has? c left
       go true true p q =
           let e = k .is c (eqb-true (c % 16) 0 p) in
-          let o = eqb-true (getD m (c / 16) 0) 1 q in
+          let o = eqb-true (getD m (c / 16) 0) unmetMark q in
           sym (lt-ltb 0 (cnt c left) (⊎-elim (λ z. ⊎-elim (λ y. omega (arith, e, o)) (λ y. omega (arith, e, o)) (zero-or (b c))) (λ z. omega (arith, e, o)) (zero-or (k .s c))))
       go true false p q = ⊎-elim
           (λ z. sym (le-ltb 0 (cnt c left) (omega arith)))
-          (λ z. absurd (eqb-false (getD m (c / 16) 0) 1 q (omega (arith, k .is c (eqb-true (c % 16) 0 p), k .once c))))
+          (λ z. absurd (eqb-false (getD m (c / 16) 0) unmetMark q (omega (arith, k .is c (eqb-true (c % 16) 0 p), k .once c))))
           (zero-or (cnt c left))
       go false y p q = ⊎-elim
           (λ z. sym (le-ltb 0 (cnt c left) (omega arith)))
@@ -53,21 +53,21 @@ module _ (w m left : List ℕ) (b : ℕ → ℕ) (k : Marks w m left b) where
   pub bins-told : (x : ℕ) → x % 16 ≡ 0 → b x ≡ binAt m x
   bins-told x e = go (b x) refl
     where
-      is : getD m (x / 16) 0 ≡ cnt x left + 2 * k .s x + 3 * b x
+      is : getD m (x / 16) 0 ≡ unmetMark * cnt x left + stackedMark * k .s x + binnedMark * b x
       is = k .is x e
 
       go : (n : ℕ) → b x ≡ n → b x ≡ binAt m x
-      go zero z = omega (arith, z, ap ind (ne-eqb (getD m (x / 16) 0) 3 (λ q. omega (arith, is, k .once x, z, q))))
-      go (suc n) z = omega (arith, z, k .once x, ap ind (eq-eqb (getD m (x / 16) 0) 3 (omega (arith, is, k .once x, z))))
+      go zero z = omega (arith, z, ap ind (ne-eqb (getD m (x / 16) 0) binnedMark (λ q. omega (arith, is, k .once x, z, q))))
+      go (suc n) z = omega (arith, z, k .once x, ap ind (eq-eqb (getD m (x / 16) 0) binnedMark (omega (arith, is, k .once x, z))))
 
-pub unmet-one : (m : List ℕ) (c : ℕ) → unmet m c ≡ true → (getD m (c / 16) 0 ≡ 1) × (c / 16 < length m)
+pub unmet-one : (m : List ℕ) (c : ℕ) → unmet m c ≡ true → (getD m (c / 16) 0 ≡ unmetMark) × (c / 16 < length m)
 unmet-one m c e =
-    let o : getD m (c / 16) 0 ≡ 1 = eqb-true (getD m (c / 16) 0) 1 (both-true (eqb (c % 16) 0) (eqb (getD m (c / 16) 0) 1) e .1) in
+    let o : getD m (c / 16) 0 ≡ unmetMark = eqb-true (getD m (c / 16) 0) unmetMark (both-true (eqb (c % 16) 0) (eqb (getD m (c / 16) 0) unmetMark) e .1) in
     (o, ⊎-elim (λ z. z) (λ z. absurd (omega (arith, List·getD-eq-default {A = ℕ} m 0 z))) (lt-or-le (c / 16) (length m)))
 
 -- ---- c gets the mark v
 marked : (w m left : List ℕ) (b : ℕ → ℕ) (c v : ℕ) (k : Marks w m left b) (s′ b′ : ℕ → ℕ) → unmet m c ≡ true
-    → ((x : ℕ) → (x ≡ c → ⊥) → (s′ x ≡ k .s x) × (b′ x ≡ b x)) → 2 * s′ c + 3 * b′ c ≡ v → s′ c + b′ c ≡ 1
+    → ((x : ℕ) → (x ≡ c → ⊥) → (s′ x ≡ k .s x) × (b′ x ≡ b x)) → stackedMark * s′ c + binnedMark * b′ c ≡ v → s′ c + b′ c ≡ 1
     → Marks w (set m (c / 16) v) (without c left) b′
 marked w m left b c v k s′ b′ e other here sum =
     let j = unmet-inside w m left b k c e in
@@ -105,28 +105,28 @@ mark-step w m left b c t k e = by t
     j : 1 ≤ cnt c left
     j = unmet-inside w m left b k c e .2
 
-    stack : Marks w (set m (c / 16) 2) (without c left) (λ x. b x + 0)
-    stack = marked w m left b c 2 k (λ x. k .s x + ind (eqb x c)) (λ x. b x + 0) e (λ x q. (omega (arith, ind-other x c q), omega arith))
+    stack : Marks w (set m (c / 16) stackedMark) (without c left) (λ x. b x + 0)
+    stack = marked w m left b c stackedMark k (λ x. k .s x + ind (eqb x c)) (λ x. b x + 0) e (λ x q. (omega (arith, ind-other x c q), omega arith))
         (omega (arith, ind-same c, k .once c, j)) (omega (arith, ind-same c, k .once c, j))
 
     by : (t : ListKind) → Marks w (set m (c / 16) (markOf t)) (without c left) (λ x. b x + binCnt t x (c ∷ []))
     by (Cache i) = stack
     by (Fast i) = stack
-    by (Bin i) = marked w m left b c 3 k (λ x. k .s x) (λ x. b x + (ind (eqb x c) + 0)) e (λ x q. (refl, omega (arith, ind-other x c q)))
+    by (Bin i) = marked w m left b c binnedMark k (λ x. k .s x) (λ x. b x + (ind (eqb x c) + 0)) e (λ x q. (refl, omega (arith, ind-other x c q)))
         (omega (arith, ind-same c, k .once c, j)) (omega (arith, ind-same c, k .once c, j))
 
--- ---- fewer marks are 1
-cnt-mark : (m : List ℕ) (i v : ℕ) → (1 ≡ v → ⊥) → i < length m → getD m i 0 ≡ 1 → cnt 1 m ≡ suc (cnt 1 (set m i v))
+-- ---- fewer are not met
+cnt-mark : (m : List ℕ) (i v : ℕ) → (unmetMark ≡ v → ⊥) → i < length m → getD m i 0 ≡ unmetMark → cnt unmetMark m ≡ suc (cnt unmetMark (set m i v))
 cnt-mark [] i v n h e = absurd (not-suc-le-zero h)
-cnt-mark (x ∷ m) zero v n h e = omega (arith, ap (λ (z : ℕ). ind (eqb 1 z)) e, ind-other 1 v n)
+cnt-mark (x ∷ m) zero v n h e = omega (arith, ap (λ (z : ℕ). ind (eqb unmetMark z)) e, ind-other unmetMark v n)
 cnt-mark (x ∷ m) (suc i) v n h e = omega (arith, cnt-mark m i v n (le-of-suc-le-suc h) e)
 
-pub mark-less : (m : List ℕ) (c v : ℕ) (k : ListKind) → v ≡ markOf k → unmet m c ≡ true → cnt 1 (set m (c / 16) v) < cnt 1 m
+pub mark-less : (m : List ℕ) (c v : ℕ) (k : ListKind) → v ≡ markOf k → unmet m c ≡ true → cnt unmetMark (set m (c / 16) v) < cnt unmetMark m
 mark-less m c v k e f =
     let o = unmet-one m c f in
     omega (arith, cnt-mark m (c / 16) v (λ z. two k (z ∙ e)) (o .1) (o .0))
   where
-    two : (k : ListKind) → 1 ≡ markOf k → ⊥
+    two : (k : ListKind) → unmetMark ≡ markOf k → ⊥
     two (Cache j) z = omega (arith, z)
     two (Fast j) z = omega (arith, z)
     two (Bin j) z = omega (arith, z)

@@ -25,7 +25,7 @@ use Rattle.audit.specs.Spelled.{listsOf, view-lists, total-lists, binned
 use Rattle.audit.specs.Done.{ListsDone, AuditDone, binnedOf}
 use Rattle.audit.specs.MarkLaws.{unmet-has, bins-told}
 
--- ---- mark 1 is a live block: a chunk, not the top, that no list has
+-- ---- an unmet chunk is a live block: a chunk, not the top, that no list has
 live-test : (a b c : ℕ) → a + b ≡ c → c ≤ 1 → ltb 0 a ≡ both (ltb 0 c) (eqb b 0)
 live-test zero b c e h = go (ltb 0 c) refl
   where

@@ -1,9 +1,9 @@
 // A look: the audit with marks of its own, and of a sound heap whether mem is a live block's. Assumes nothing.
 ghost use mathlib.Core.Path.{_≡_};
-ghost use Prim.Native.Nat.{_-_};
 ghost use lib.Dec.{leb};
 ghost use lib.ListN.{length};
 ghost use Rattle.le.specs.Arena.{arenaWords};
+ghost use Rattle.sizes.specs.Offsets.{chunkOf};
 ghost use Rattle.machine.specs.Lists.{both};
 ghost use Rattle.machine.specs.Audit.{auditOf};
 ghost use Rattle.audit_lists.specs.Listed.{unmet};
@@ -11,21 +11,24 @@ ghost use Rattle.audit_walks.specs.Marks.{ArenaBytes, Bytes, Clear};
 ghost use Rattle.audit.specs.Looks.{lookAt};
 use crate::Look;
 use crate::audit_marks;
+use audit_walks::UNMARKED;
+use chunk_fields::Link;
 use machine::Audited;
+use sizes::Mem;
 
 // Whether the marks of an audit say that mem is a live block's.
-fn is_live(m: &[u8], mem: u64) -> bool
-    ensures { λ t. ⌜ t ≡ both (leb 16 mem) (unmet (now (m .entry)) (mem - 16)) ⌝ }
+fn is_live(m: &[u8], mem: Mem) -> bool
+    ensures { λ t. ⌜ t ≡ both (leb 16 (mem .0)) (unmet (now (m .entry)) (chunkOf (mem .0))) ⌝ }
 {
-    if mem < 16 {
+    if mem.0 < 16 {
         return false;
     }
-    audit_lists::unmet(m, mem - 16)
+    audit_lists::unmet(m, Link(mem.chunk().0))
 }
 
-fn look_with(a: &[u8], r: &[u32], m: &mut [u8], mem: u64) -> Look
+fn look_with(a: &[u8], r: &[u32], m: &mut [u8], mem: Mem) -> Look
     requires { ⌜ Bytes (now a) (now m) × (length (now r) ≡ 393) × Clear (now m) ⌝ }
-    ensures { λ l. ⌜ l ≡ lookAt (arenaWords (now (a .entry))) (now (r .entry)) mem ⌝ }
+    ensures { λ l. ⌜ l ≡ lookAt (arenaWords (now (a .entry))) (now (r .entry)) (mem .0) ⌝ }
 {
     let f = audit_marks(a, r, m);
     if !machine::is_sound(f) {
@@ -38,23 +41,23 @@ fn look_with(a: &[u8], r: &[u32], m: &mut [u8], mem: u64) -> Look
 }
 
 // The marks are cleared in four sizes, never more bytes than the arena has, since an array has one length in this language.
-pub fn look_at(a: &[u8], r: &[u32], mem: u64) -> Look
+pub fn look_at(a: &[u8], r: &[u32], mem: Mem) -> Look
     requires { ⌜ ArenaBytes (now a) × (length (now r) ≡ 393) ⌝ }
-    ensures { λ l. ⌜ l ≡ lookAt (arenaWords (now (a .entry))) (now (r .entry)) mem ⌝ }
+    ensures { λ l. ⌜ l ≡ lookAt (arenaWords (now (a .entry))) (now (r .entry)) (mem .0) ⌝ }
 {
     if a.len() <= 512 {
-        let mut m = [0u8; 32];
+        let mut m = [UNMARKED; 32];
         return look_with(a, r, &mut m, mem);
     }
     if a.len() <= 8192 {
-        let mut m = [0u8; 512];
+        let mut m = [UNMARKED; 512];
         return look_with(a, r, &mut m, mem);
     }
     if a.len() <= 49152 {
-        let mut m = [0u8; 3072];
+        let mut m = [UNMARKED; 3072];
         return look_with(a, r, &mut m, mem);
     }
-    let mut m = [0u8; 16384];
+    let mut m = [UNMARKED; 16384];
     look_with(a, r, &mut m, mem)
 }
 
@@ -63,7 +66,7 @@ pub fn audit_words(a: &[u8], r: &[u32]) -> Audited
     requires { ⌜ ArenaBytes (now a) × (length (now r) ≡ 393) ⌝ }
     ensures { λ f. ⌜ f ≡ auditOf (arenaWords (now (a .entry))) (now (r .entry)) ⌝ }
 {
-    match look_at(a, r, 0) {
+    match look_at(a, r, Mem(0)) {
         Look::Faulty(f) => f,
         Look::NotLive => Audited::Sound,
         Look::Live => Audited::Sound,

@@ -12,6 +12,7 @@ ghost use Rattle.le.specs.Arena.{arenaWords};
 ghost use Rattle.audit_walks.specs.Marks.{Bytes, Clear};
 ghost use Rattle.audit.specs.Done.{AuditDone};
 use machine::Audited;
+use sizes::Chunk;
 
 // What a call finds before it writes.
 pub enum Look {
@@ -20,7 +21,7 @@ pub enum Look {
     Live,
 }
 
-// The marks m, all 0 and one for each 16 bytes of arena, are lent: in a sound heap they are then 1 exactly at the live blocks.
+// The marks m, all clear and one for each 16 bytes of arena, are lent: in a sound heap the unmet chunks are then exactly the live blocks.
 pub fn audit_marks(a: &[u8], r: &[u32], m: &mut [u8]) -> Audited
     requires { ⌜ Bytes (now a) (now m) × (length (now r) ≡ 393) × Clear (now m) ⌝ }
     ensures { λ f. ⌜ AuditDone (arenaWords (now (a .entry))) (now (r .entry)) f (now (m .exit)) ⌝ }
@@ -28,7 +29,7 @@ pub fn audit_marks(a: &[u8], r: &[u32], m: &mut [u8]) -> Audited
     if r[sizes::LENGTH_WORD] as usize != a.len() {
         return Audited::Record;
     }
-    let top = r[sizes::TOP_WORD];
+    let top = Chunk(r[sizes::TOP_WORD] as u64);
     let t = audit_walks::tile_fault(a, top, m);
     if !machine::is_sound(t) {
         return t;

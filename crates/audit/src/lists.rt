@@ -5,44 +5,50 @@ ghost use lib.ListN.{length};
 ghost use Rattle.le.specs.Arena.{arenaWords};
 ghost use Rattle.audit_walks.specs.Marks.{Bytes, Started};
 ghost use Rattle.audit.specs.Done.{ListsDone};
+use chunk_fields::Link;
+use chunk_fields::fwd_at;
+use chunk_fields::size_at;
 use machine::Audited;
+use sizes::ALL_LISTS;
+use sizes::Chunk;
 use sizes::NONE64;
 
-// The first bad list, or sound; marks each chunk of a list with the list's mark. c: the chunk at hand; p, q: the one before it and its size; n: how many
-// came before.
+// The first bad list, or sound; marks each chunk of a list with the list's mark, v. o: the sizes that the list owns; c: the chunk at hand; p, q: the one
+// before it and its size; n: how many came before.
 pub fn list_fault(a: &[u8], r: &[u32], m: &mut [u8]) -> Audited
     requires { ⌜ Bytes (now a) (now m) × (length (now r) ≡ 393) × Started (arenaWords (now a)) (now m) ⌝ }
     ensures { λ f. ⌜ ListsDone (arenaWords (now (a .entry))) (now (r .entry)) f (now (m .exit)) ⌝ }
 {
     let mut fault = Audited::Sound;
     let mut i: u32 = 0;
-    'lists: while i < 200 {
+    'lists: while i < ALL_LISTS {
         let j = audit_empty_lists::skip(r, i);
-        if j == 200 {
+        if j == ALL_LISTS {
             break;
         }
         let k = audit_lists::kind_at(j);
         let v = audit_lists::mark(k);
+        let o = audit_lists::owned_by(k);
         let mut c = audit_lists::head(r, k);
-        let mut p = NONE64;
+        let mut p = Link(NONE64);
         let mut q: u64 = 0;
         let mut n: u32 = 0;
-        while c != NONE64 {
+        while c.0 != NONE64 {
             if !audit_lists::unmet(m, c) {
                 fault = Audited::List(k);
                 break 'lists;
             }
-            let at = c as usize;
-            let s = audit_walks::size_word(a, at).size();
-            if !audit_lists::fits(a, k, at, s, p, q, n) {
+            let at = Chunk(c.0);
+            let s = size_at(a, at);
+            if !audit_lists::may_stand(a, k, o, at, s, p, q, n) {
                 fault = Audited::List(k);
                 break 'lists;
             }
-            m[at / 16] = v;
+            m[(at.0 / 16) as usize] = v;
             p = c;
             q = s;
             n += 1;
-            c = audit_walks::forward(a, at);
+            c = fwd_at(a, at);
         }
         if !audit_lists::may_end(r, k, p, n) {
             fault = Audited::List(k);

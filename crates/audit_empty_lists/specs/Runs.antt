@@ -114,9 +114,10 @@ skipped-cache r i j l s h e = skipped-one r i j (omega arith) s (cache-empty r j
 pub skipped-fast : (r : List ℕ) (i j : ℕ) → 64 ≤ j → j < 74 → Skipped r i j → getD r (fastHead (j - 64)) 0 ≡ none32 → Skipped r i (j + 1)
 skipped-fast r i j g l s h = skipped-one r i j (omega arith) s (fast-empty r j g l h)
 
-pub skipped-bin : (r : List ℕ) (i j f : ℕ) → 74 ≤ j → j < 200 → f ≡ binFirst (j - 73) → Skipped r i j → getD r f 0 ≡ none32 → getD r (f + 1) 0 ≡ none32 → Skipped r i (j + 1)
-skipped-bin r i j f g l e s h t =
-    skipped-one r i j l s (bin-empty r j g (ap (λ (n : ℕ). getD r n 0) (sym e) ∙ h) (ap (λ (n : ℕ). getD r n 0) (omega (arith, e)) ∙ t))
+pub skipped-bin : (r : List ℕ) (i j b first last : ℕ) → 74 ≤ j → j < 200 → b ≡ j - 73 → first ≡ binFirst b → last ≡ binLast b → Skipped r i j
+    → getD r first 0 ≡ none32 → getD r last 0 ≡ none32 → Skipped r i (j + 1)
+skipped-bin r i j b first last g l e p q s h t =
+    skipped-one r i j l s (bin-empty r j g (ap (λ (n : ℕ). getD r n 0) (omega (arith, e, p)) ∙ h) (ap (λ (n : ℕ). getD r n 0) (omega (arith, e, q)) ∙ t))
 
 -- several at once
 skipped-run : (r : List ℕ) (i j n : ℕ) → j + n ≤ 200 → Skipped r i j → ((k : ℕ) → k < n → Empty r (kindAt (j + k))) → Skipped r i (j + n)
@@ -126,12 +127,12 @@ skipped-run r i j n h s e = skipped-then r i j (j + n) s (record {
   empty = λ x p q. let z : j + (x - j) ≡ x = omega (arith, p) in rw z at (e (x - j) (omega (arith, p, q)));
 })
 
-pub skipped-caches : (r : List ℕ) (i j : ℕ) → j < 57 → Skipped r i j → AllFrom r (cacheHead j) 8 none32 → AllFrom r (cacheCount j) 8 0 → Skipped r i (j + 8)
+pub skipped-caches : (r : List ℕ) (i j : ℕ) → j + 8 ≤ 64 → Skipped r i j → AllFrom r (cacheHead j) 8 none32 → AllFrom r (cacheCount j) 8 0 → Skipped r i (j + 8)
 skipped-caches r i j l s h e =
     skipped-run r i j 8 (omega (arith, l)) s
     (λ k q. cache-empty r (j + k) (omega (arith, l, q)) (rw (← add-assoc 3 j k) (h k q)) (rw (← add-assoc 67 j k) (e k q)))
 
-pub skipped-four : (r : List ℕ) (i j f : ℕ) → 74 ≤ j → j < 197 → f ≡ binFirst (j - 73) → Skipped r i j → AllFrom r f 8 none32 → Skipped r i (j + 4)
+pub skipped-four : (r : List ℕ) (i j f : ℕ) → 74 ≤ j → j + 4 ≤ 200 → f ≡ binFirst (j - 73) → Skipped r i j → AllFrom r f 8 none32 → Skipped r i (j + 4)
 skipped-four r i j f g l e s h =
     skipped-run r i j 4 (omega (arith, l)) s (λ k q.
     let first : f + 2 * k ≡ binFirst (j + k - 73) = omega (arith, e, g) in

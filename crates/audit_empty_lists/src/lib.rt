@@ -5,7 +5,16 @@ ghost use Prim.Native.Nat.{_+_, _≤_};
 ghost use lib.ListN.{length};
 ghost use Rattle.sizes.specs.Limits.{none32};
 ghost use Rattle.audit_empty_lists.specs.Skips.{fourAnd, fourOr, AllFrom, Skipped};
+use sizes::ALL_LISTS;
+use sizes::BINS_FROM;
+use sizes::CACHE_COUNTS;
+use sizes::CACHE_HEADS;
+use sizes::FAST_FROM;
+use sizes::FAST_HEADS;
 use sizes::NONE32;
+use sizes::bin_first;
+use sizes::bin_last;
+use sizes::bin_of_list;
 
 // The bits that are set in all of four words, and those that are set in any of them.
 fn four_and(r: &[u32], f: usize) -> u32
@@ -38,14 +47,14 @@ fn eight_zero(r: &[u32], f: usize) -> bool
     four_or(r, f) | four_or(r, f + 4) == 0
 }
 
-// The first list from number i on that is not empty, or 200, where i is a bin's. Four at a time, while there are four.
+// The first list from number i on that is not empty, or ALL_LISTS, where i is a bin's. Four at a time, whose words stand in a row, while there are four.
 fn skip_bins(r: &[u32], i: u32) -> u32
     requires { ⌜ (length (now r) ≡ 393) × (74 ≤ i) × (i ≤ 200) ⌝ }
     ensures { λ j. ⌜ Skipped (now (r .entry)) i j ⌝ }
 {
     let mut j = i;
-    while j < 197 {
-        if !eight_none(r, sizes::bin_first((j - 73) as usize)) {
+    while j + 4 <= ALL_LISTS {
+        if !eight_none(r, bin_first(bin_of_list(j))) {
             break;
         }
         j += 4;
@@ -59,12 +68,14 @@ fn skip_one_by_one(r: &[u32], i: u32) -> u32
     ensures { λ j. ⌜ Skipped (now (r .entry)) i j ⌝ }
 {
     let mut j = i;
-    while j < 200 {
-        let first = sizes::bin_first((j - 73) as usize);
+    while j < ALL_LISTS {
+        let b = bin_of_list(j);
+        let first = bin_first(b);
         if r[first] != NONE32 {
             return j;
         }
-        if r[first + 1] != NONE32 {
+        let last = bin_last(b);
+        if r[last] != NONE32 {
             return j;
         }
         j += 1;
@@ -78,8 +89,8 @@ fn skip_fast(r: &[u32], i: u32) -> u32
     ensures { λ j. ⌜ Skipped (now (r .entry)) i j ⌝ }
 {
     let mut j = i;
-    while j < 74 {
-        if r[sizes::FAST_HEADS + ((j - 64) as usize)] != NONE32 {
+    while j < BINS_FROM {
+        if r[FAST_HEADS + ((j - FAST_FROM) as usize)] != NONE32 {
             return j;
         }
         j += 1;
@@ -93,11 +104,11 @@ fn skip_caches(r: &[u32], i: u32) -> u32
     ensures { λ j. ⌜ Skipped (now (r .entry)) i j ⌝ }
 {
     let mut j = i;
-    while j < 64 {
-        if r[sizes::CACHE_HEADS + (j as usize)] != NONE32 {
+    while j < FAST_FROM {
+        if r[CACHE_HEADS + (j as usize)] != NONE32 {
             return j;
         }
-        if r[sizes::CACHE_COUNTS + (j as usize)] != 0 {
+        if r[CACHE_COUNTS + (j as usize)] != 0 {
             return j;
         }
         j += 1;
@@ -105,17 +116,17 @@ fn skip_caches(r: &[u32], i: u32) -> u32
     skip_fast(r, j)
 }
 
-// The first list from number i on that is not empty, or 200. Eight cache lists at a time, while there are eight.
+// The first list from number i on that is not empty, or ALL_LISTS. Eight cache lists at a time, while there are eight.
 pub fn skip(r: &[u32], i: u32) -> u32
     requires { ⌜ (length (now r) ≡ 393) × (i ≤ 200) ⌝ }
     ensures { λ j. ⌜ Skipped (now (r .entry)) i j ⌝ }
 {
     let mut j = i;
-    while j < 57 {
-        if !eight_none(r, sizes::CACHE_HEADS + (j as usize)) {
+    while j + 8 <= FAST_FROM {
+        if !eight_none(r, CACHE_HEADS + (j as usize)) {
             break;
         }
-        if !eight_zero(r, sizes::CACHE_COUNTS + (j as usize)) {
+        if !eight_zero(r, CACHE_COUNTS + (j as usize)) {
             break;
         }
         j += 8;

@@ -1,3 +1,5 @@
+pub mod Owns
+pub mod OwnsLaws
 pub mod Stand
 pub mod StandWays
 pub mod Listed

@@ -1,8 +1,11 @@
-// What the audit asks of one list, each against its definition in the machine: its kind, its mark, its head and end in the record, whether a chunk was met.
-// The loop over them stands in the crate audit. Assumes nothing.
+// What the audit asks of one list, each against its definition in the machine: its kind, its mark, its head and end in the record, the sizes it owns,
+// whether a chunk was met. The loop over them stands in the crate audit. Assumes nothing.
+mod owns; // owns.rt: which sizes a list owns
 mod stands; // stands.rt: whether a chunk may stand in a list
 
-pub use stands::fits;
+pub use owns::Owned;
+pub use owns::owned_by;
+pub use stands::may_stand;
 ghost use mathlib.Core.Path.{_≡_};
 ghost use Prim.Native.Nat.{_<_};
 ghost use lib.ListN.{length, getD};
@@ -10,49 +13,55 @@ ghost use Rattle.machine.specs.View.{up, kindAt, headWord};
 ghost use Rattle.machine.specs.Audit.{mayEnd};
 ghost use Rattle.audit_lists.specs.Listed.{unmet, markOf, tailWord};
 use audit_walks::BINNED;
+use audit_walks::STACKED;
+use audit_walks::UNMET;
+use chunk_fields::Link;
 use chunk_fields::link_of;
 use machine::ListKind;
+use sizes::BINS_FROM;
+use sizes::FAST_FROM;
 
+// The list of the audit's number i.
 pub fn kind_at(i: u32) -> ListKind
     ensures { λ r. ⌜ r ≡ kindAt i ⌝ }
 {
-    if i < 64 {
+    if i < FAST_FROM {
         return ListKind::Cache(i);
     }
-    if i < 74 {
-        return ListKind::Fast(i - 64);
+    if i < BINS_FROM {
+        return ListKind::Fast(i - FAST_FROM);
     }
-    ListKind::Bin(i - 73)
+    ListKind::Bin(sizes::bin_of_list(i) as u32)
 }
 
-// The mark of a chunk that such a list has: 2 for a stack, 3 for a bin. 1 is that of a chunk that no list had yet.
+// The mark of a chunk that such a list has.
 pub fn mark(k: ListKind) -> u8
     ensures { λ r. ⌜ r ≡ markOf k ⌝ }
 {
     match k {
-        ListKind::Cache(_) => 2,
-        ListKind::Fast(_) => 2,
+        ListKind::Cache(_) => STACKED,
+        ListKind::Fast(_) => STACKED,
         ListKind::Bin(_) => BINNED,
     }
 }
 
 // Whether c is a chunk, not the top, that was not met before.
-pub fn unmet(m: &[u8], c: u64) -> bool
-    ensures { λ r. ⌜ r ≡ unmet (now (m .entry)) c ⌝ }
+pub fn unmet(m: &[u8], c: Link) -> bool
+    ensures { λ r. ⌜ r ≡ unmet (now (m .entry)) (c .0) ⌝ }
 {
-    if c % 16 != 0 {
+    if c.0 % 16 != 0 {
         return false;
     }
-    let i = (c / 16) as usize;
+    let i = (c.0 / 16) as usize;
     if m.len() <= i {
         return false;
     }
-    m[i] == 1
+    m[i] == UNMET
 }
 
-pub fn head(r: &[u32], k: ListKind) -> u64
+pub fn head(r: &[u32], k: ListKind) -> Link
     requires { ⌜ (length (now r) ≡ 393) × (headWord k < 393) ⌝ }
-    ensures { λ v. ⌜ v ≡ up (getD (now (r .entry)) (headWord k) 0) ⌝ }
+    ensures { λ v. ⌜ v .0 ≡ up (getD (now (r .entry)) (headWord k) 0) ⌝ }
 {
     match k {
         ListKind::Cache(j) => link_of(r[sizes::CACHE_HEADS + (j as usize)]),
@@ -65,16 +74,16 @@ pub fn head(r: &[u32], k: ListKind) -> u64
 }
 
 // Whether the list may end after the chunk p and n chunks in all.
-pub fn may_end(r: &[u32], k: ListKind, p: u64, n: u32) -> bool
+pub fn may_end(r: &[u32], k: ListKind, p: Link, n: u32) -> bool
     requires { ⌜ (length (now r) ≡ 393) × (tailWord k < 393) ⌝ }
-    ensures { λ v. ⌜ v ≡ mayEnd k (now (r .entry)) p n ⌝ }
+    ensures { λ v. ⌜ v ≡ mayEnd k (now (r .entry)) (p .0) n ⌝ }
 {
     match k {
         ListKind::Cache(j) => r[sizes::CACHE_COUNTS + (j as usize)] == n,
         ListKind::Fast(_) => true,
         ListKind::Bin(j) => {
             let i = sizes::bin_last(j as usize);
-            link_of(r[i]) == p
+            link_of(r[i]).0 == p.0
         }
     }
 }

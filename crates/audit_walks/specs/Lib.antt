@@ -1,5 +1,4 @@
-pub mod Leaves
-pub mod Words
+pub mod TileWord
 pub mod Tests
 pub mod Tiles
 pub mod Marks

@@ -1,17 +1,33 @@
--- What the audit's code leaves in the marks, one for each 16 bytes of arena: 1 at a chunk that no list had yet, 2 at one that a stack has, 3 at one that a
--- bin has; and what each walk over the tiles promises. Definitions only.
+-- The audit's marks, one for each 16 bytes of arena: what the code leaves in them, and what each walk over the tiles promises. Definitions only.
 use mathlib.Core.Path.{_≡_}
 use mathlib.Core.List.{List}
 use Prim.Native.Nat.{ℕ, _+_, _*_, _/_, _%_, _≤_, _<_}
+use lib.Dec.{eqb}
 use lib.ListN.{length, getD}
-use Rattle.machine.specs.Lists.{cnt}
+use Rattle.machine.specs.Lists.{cnt, ind}
 use Rattle.machine.specs.Heap.{startsFrom, endFrom}
 use Rattle.machine.specs.View.{tileAt, tilesOf}
 use Rattle.machine.specs.Audit.{tileFault, flagFault}
 use Rattle.machine.specs.declared.Audited.{Audited}
 use Rattle.machine.specs.declared.Audited.the-variants as A
-use Rattle.audit_walks.specs.Leaves.{binnedBy}
 use Rattle.audit_walks.specs.Tiles.{TilesOk}
+
+-- no chunk starts here, or the top does; a chunk that no list had yet; one that a stack has; one that a bin has
+abbrev pub unmarked : ℕ
+unmarked = 0
+
+abbrev pub unmetMark : ℕ
+unmetMark = 1
+
+abbrev pub stackedMark : ℕ
+stackedMark = 2
+
+abbrev pub binnedMark : ℕ
+binnedMark = 3
+
+-- how often the bins have a chunk of this mark
+abbrev pub binnedBy : ℕ → ℕ
+binnedBy v = ind (eqb v binnedMark)
 
 -- the allowed lengths of an arena
 pub record ArenaBytes (a : List ℕ) : Type 0 where
@@ -25,12 +41,12 @@ pub record Bytes (a m : List ℕ) : Type 0 where
   pub room : length a ≤ 16 * length m
 
 abbrev pub Clear : List ℕ → Type 0
-Clear m = (i : ℕ) → getD m i 0 ≡ 0
+Clear m = (i : ℕ) → getD m i 0 ≡ unmarked
 
 -- left: the chunks that no list had yet; b: how often bins had one, s: how often stacks
 pub record Marks (w m left : List ℕ) (b : ℕ → ℕ) : Type 0 where
   pub s : ℕ → ℕ
-  pub is : (x : ℕ) → x % 16 ≡ 0 → getD m (x / 16) 0 ≡ cnt x left + 2 * s x + 3 * b x
+  pub is : (x : ℕ) → x % 16 ≡ 0 → getD m (x / 16) 0 ≡ unmetMark * cnt x left + stackedMark * s x + binnedMark * b x
   pub once : (x : ℕ) → cnt x left + s x + b x ≤ 1
   pub even : (x : ℕ) → 1 ≤ cnt x left → x % 16 ≡ 0
   pub inside : (x : ℕ) → 1 ≤ cnt x left → x + 32 ≤ 8 * length w
@@ -38,7 +54,7 @@ pub record Marks (w m left : List ℕ) (b : ℕ → ℕ) : Type 0 where
 abbrev pub startsOf : List ℕ → List ℕ
 startsOf w = startsFrom 0 (tilesOf w)
 
--- every chunk but the top is marked 1
+-- every chunk but the top is marked as one that no list had yet
 pub record Started (w m : List ℕ) : Type 0 where
   pub marks : Marks w m (startsOf w) (λ x. 0)
   pub few : length (startsOf w) < length w

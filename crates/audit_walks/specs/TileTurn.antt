@@ -19,11 +19,11 @@ use Rattle.machine.specs.View.{sizeAt, lowAt, tileAt, tilesFrom, tilesOf}
 use Rattle.machine.specs.Audit.{tileOk, tileFault}
 use Rattle.machine.specs.declared.Audited.the-variants as A
 use Rattle.sound.specs.Tiles.{Start, start, starts-once}
-use Rattle.audit_walks.specs.Leaves.{wordOk}
+use Rattle.audit_walks.specs.TileWord.{wordOk}
 use Rattle.sound.specs.Release.{both-true}
 use Rattle.audit_walks.specs.Tests.{not-sound}
 use Rattle.audit_walks.specs.Tiles.{TilesOk, tiles-sound, few}
-use Rattle.audit_walks.specs.Marks.{ArenaBytes, Clear, TilesDone, startsOf}
+use Rattle.audit_walks.specs.Marks.{unmetMark, ArenaBytes, Clear, TilesDone, startsOf}
 
 pub arena-length : (a : List ℕ) → ArenaBytes a → 8 * length (arenaWords a) ≡ length a
 arena-length a b = omega (arith, length-arenaWords a, b .even)
@@ -84,7 +84,7 @@ tile-enter w m top l c = record {
 }
 
 pub tile-turn : (w m : List ℕ) (top o : ℕ) → TileIn w m top o → tileOk w o ≡ true → o + sizeAt w o < 8 * length w → o / 16 < length m
-    → TileIn w (set m (o / 16) 1) top (o + sizeAt w o)
+    → TileIn w (set m (o / 16) unmetMark) top (o + sizeAt w o)
 tile-turn w m top o i ok lt inm = go (i .f) (i .fuel) (i .same) (i .marks)
   where
     big : 32 ≤ sizeAt w o
@@ -92,7 +92,7 @@ tile-turn w m top o i ok lt inm = go (i .f) (i .fuel) (i .same) (i .marks)
 
     go : (f : ℕ) → 8 * length w ≤ o + 32 * f → tileFault w top o (tilesFrom f w o) ≡ tileFault w top 0 (tilesOf w)
         → ((x : ℕ) → x % 16 ≡ 0 → getD m (x / 16) 0 + cnt x (startsFrom o (tilesFrom f w o)) ≡ cnt x (startsOf w))
-        → TileIn w (set m (o / 16) 1) top (o + sizeAt w o)
+        → TileIn w (set m (o / 16) unmetMark) top (o + sizeAt w o)
     go zero b s k = absurd (omega (arith, i .before))
     go (suc f) b s k =
         let r : List Tile = tilesFrom f w (o + sizeAt w o) in
@@ -105,10 +105,10 @@ tile-turn w m top o i ok lt inm = go (i .f) (i .fuel) (i .same) (i .marks)
           fuel = omega (arith, big);
           same = sym (ap (tileFault w top o) e ∙ fault-more w top o r ok) ∙ s;
           marks = λ x x16. ⊎-elim
-              (λ q. omega (arith, k x x16, c x, ap (λ (z : ℕ). getD (set m (o / 16) 1) (z / 16) 0) q, getD-set-same m (o / 16) 1 0 inm, i .clear x x16 (omega arith), ap (λ (z : ℕ). ind (eqb z o)) q, ind-same o))
-              (λ q. omega (arith, k x x16, c x, getD-set-other m (o / 16) (x / 16) 1 0 (λ z. q (omega (arith, i .even))), ind-other x o q))
+              (λ q. omega (arith, k x x16, c x, ap (λ (z : ℕ). getD (set m (o / 16) unmetMark) (z / 16) 0) q, getD-set-same m (o / 16) unmetMark 0 inm, i .clear x x16 (omega arith), ap (λ (z : ℕ). ind (eqb z o)) q, ind-same o))
+              (λ q. omega (arith, k x x16, c x, getD-set-other m (o / 16) (x / 16) unmetMark 0 (λ z. q (omega (arith, i .even))), ind-other x o q))
               (eq? x o);
-          clear = λ x x16 l. getD-set-other m (o / 16) (x / 16) 1 0 (λ z. omega (arith, i .even, big)) ∙ i .clear x x16 (omega arith);
+          clear = λ x x16 l. getD-set-other m (o / 16) (x / 16) unmetMark 0 (λ z. omega (arith, i .even, big)) ∙ i .clear x x16 (omega arith);
         }
 
 -- ---- the ways out

@@ -3,14 +3,14 @@
 ghost use mathlib.Core.Path.{_≡_};
 ghost use Rattle.machine.specs.Heap.{tile};
 ghost use Rattle.machine.specs.Audit.{flagOk};
-ghost use Rattle.audit_walks.specs.Leaves.{binnedBy};
 ghost use Rattle.le.specs.Arena.{arenaWords};
-ghost use Rattle.audit_walks.specs.Marks.{Bytes, Flagging, FlagsDone};
-use crate::chunk;
+ghost use Rattle.audit_walks.specs.Marks.{Bytes, Flagging, FlagsDone, binnedBy};
+use crate::marks::BINNED;
+use crate::marks::UNMARKED;
+use chunk_fields::note_at;
+use chunk_fields::size_word_at;
 use machine::Audited;
-
-// The mark of a chunk that a bin has.
-pub const BINNED: u8 = 3;
+use sizes::Chunk;
 
 // p, prev: its P and previous size; u: the mark of the chunk before, s: its size; v: the mark of this one.
 pub fn flag_ok(p: u64, prev: u64, u: u8, s: u64, v: u8) -> bool
@@ -32,27 +32,28 @@ pub fn flag_ok(p: u64, prev: u64, u: u8, s: u64, v: u8) -> bool
 }
 
 // The first wrong flag, or sound. u: the mark of the chunk before, s: its size; the top counts as binned.
-pub fn flag_fault(a: &[u8], top: u32, m: &[u8]) -> Audited
-    requires { ⌜ Bytes (now a) (now m) × Flagging (arenaWords (now a)) top ⌝ }
+pub fn flag_fault(a: &[u8], top: Chunk, m: &[u8]) -> Audited
+    requires { ⌜ Bytes (now a) (now m) × Flagging (arenaWords (now a)) (top .0) ⌝ }
     ensures { λ f. ⌜ FlagsDone (arenaWords (now (a .entry))) (now (m .entry)) f ⌝ }
 {
-    let e = top as usize;
+    let e = top.0 as usize;
     let mut o: usize = 0;
-    let mut u: u8 = 0;
+    let mut u = UNMARKED;
     let mut s: u64 = 0;
     while o < e {
-        let x = chunk::size_word(a, o);
+        let x = size_word_at(a, Chunk(o as u64));
         let v = m[o / 16];
-        if !flag_ok(x.low(), chunk::previous(a, o), u, s, v) {
+        if !flag_ok(x.low(), note_at(a, Chunk(o as u64)), u, s, v) {
             return Audited::Flag(o as u32);
         }
         u = v;
         s = x.size();
         o += s as usize;
     }
-    let y = chunk::size_word(a, e);
-    if !flag_ok(y.low(), chunk::previous(a, e), u, s, BINNED) {
-        return Audited::Flag(top);
+    let y = size_word_at(a, top);
+    if !flag_ok(y.low(), note_at(a, top), u, s, BINNED) {
+        let at = e as u32;
+        return Audited::Flag(at);
     }
     Audited::Sound
 }

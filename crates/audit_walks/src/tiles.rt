@@ -1,11 +1,13 @@
 // Tiles from 0: size a multiple of 16, at least 32, within what remains, bits 1 to 3 clear; the tile that reaches the end is the record's top.
 // Assumes nothing.
 ghost use mathlib.Core.Path.{_≡_};
-ghost use Rattle.audit_walks.specs.Leaves.{wordOk};
 ghost use Rattle.le.specs.Arena.{arenaWords};
+ghost use Rattle.audit_walks.specs.TileWord.{wordOk};
 ghost use Rattle.audit_walks.specs.Marks.{Bytes, Clear, TilesDone};
-use crate::chunk;
+use crate::marks::UNMET;
+use chunk_fields::size_word_at;
 use machine::Audited;
+use sizes::Chunk;
 use sizes::LEAST_CHUNK;
 use sizes::SizeWord;
 
@@ -18,15 +20,15 @@ pub fn tile_ok(x: SizeWord) -> bool
     LEAST_CHUNK <= x.size()
 }
 
-// The first bad tile, or sound; marks 1 at each chunk but the top.
-pub fn tile_fault(a: &[u8], top: u32, m: &mut [u8]) -> Audited
+// The first bad tile, or sound; marks each chunk but the top as one that no list had yet.
+pub fn tile_fault(a: &[u8], top: Chunk, m: &mut [u8]) -> Audited
     requires { ⌜ Bytes (now a) (now m) × Clear (now m) ⌝ }
-    ensures { λ f. ⌜ TilesDone (arenaWords (now (a .entry))) top f (now (m .exit)) ⌝ }
+    ensures { λ f. ⌜ TilesDone (arenaWords (now (a .entry))) (top .0) f (now (m .exit)) ⌝ }
 {
     let mut o: usize = 0;
     let mut room = a.len();
     loop {
-        let x = chunk::size_word(a, o);
+        let x = size_word_at(a, Chunk(o as u64));
         if !tile_ok(x) {
             return Audited::Tile(o as u32);
         }
@@ -35,12 +37,12 @@ pub fn tile_fault(a: &[u8], top: u32, m: &mut [u8]) -> Audited
             if room < s {
                 return Audited::Tile(o as u32);
             }
-            if top as usize != o {
+            if top.0 != o as u64 {
                 return Audited::Tile(o as u32);
             }
             return Audited::Sound;
         }
-        m[o / 16] = 1;
+        m[o / 16] = UNMET;
         o += s;
         room -= s;
     }

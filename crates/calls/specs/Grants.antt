@@ -43,7 +43,7 @@ use Rattle.primitives.specs.FollowLaws.{gave-ok}
 use Rattle.primitives.specs.Chunks.{start-chunk, loose-chunk}
 use Rattle.primitives.specs.Sizes.{chunk-says}
 use Rattle.calls.specs.Ways.{Octets, kept, grant-request, grant-unsound, grant-none, grant-at}
-use Rattle.calls.specs.Through.{Came, came-shape, came-sound, told, sound-ok}
+use Rattle.calls.specs.Through.{Came, came-sound, told, sound-ok}
 
 -- ---- number 2
 needed-large : (n : ℕ) → neededOf n ≡ N.TooLarge → ltb mostRequest n ≡ true
@@ -79,11 +79,11 @@ needed-size n b x e f = go (ltb mostRequest n) refl (sym e ∙ f)
         }
 
 pub grant-large : (a r : List ℕ) (n : ℕ) (x : Needed) (q : List ℕ) → Came a r q → x ≡ neededOf n → x ≡ N.TooLarge → after a r (Refused R.Request) ≡ grantCall a r n
-grant-large a r n x q c e f = grant-request a r n (came-shape a r q c) (needed-large n (sym e ∙ f))
+grant-large a r n x q c e f = grant-request a r n (c .shape) (needed-large n (sym e ∙ f))
 
 pub grant-refused : (a r q : List ℕ) (n b : ℕ) (f : Audited) → Came a r q → Sized n b → f ≡ auditOf (arenaWords a) q → sound? f ≡ false
     → after a r (Refused R.Unsound) ≡ grantCall a r n
-grant-refused a r q n b f c z e s = grant-unsound a r n (came-shape a r q c) (z .small) (told a r q f c e false s)
+grant-refused a r q n b f c z e s = grant-unsound a r n (c .shape) (z .small) (told a r q f c e false s)
 
 -- ---- a chunk as the answer needs it
 pub record Stands (b : List ℕ) (m : ℕ) : Type 0 where
@@ -124,7 +124,7 @@ module _ (a r q b p : List ℕ) (n k : ℕ) (f : Audited) (g : Got) (c : Came a 
   pub grant-through-none : (v : List ℕ) → g ≡ Nothing → Octets b → v ≡ bytes 4 p → after b v (Refused R.NoRoom) ≡ grantCall a r n
   grant-through-none v y o l =
       kept b v p (Refused R.NoRoom) l
-      (grant-none a r b p n (came-shape a r q c) (z .small) t o (subst (λ (x : Got). Gave Got (grant (need n) (heapIn a r)) x (arenaWords a) (arenaWords b) p) y gave-need))
+      (grant-none a r b p n (c .shape) (z .small) t o (subst (λ (x : Got). Gave Got (grant (need n) (heapIn a r)) x (arenaWords a) (arenaWords b) p) y gave-need))
 
   -- the chunk given stands in the arena, and its size word says its size
   module _ (m : ℕ) (y : g ≡ At m) where
@@ -154,6 +154,6 @@ module _ (a r q b p : List ℕ) (n k : ℕ) (f : Audited) (g : Got) (c : Came a 
     grant-through-at v x o l w =
         ap (after b v) w
         ∙ kept b v p (Granted (m + 16) (usable (sizeAt (arenaWords b) m))) l
-        (grant-at a r b p n m (usable (sizeAt (arenaWords b) m)) (came-shape a r q c) (z .small) t o
+        (grant-at a r b p n m (usable (sizeAt (arenaWords b) m)) (c .shape) (z .small) t o
         (subst (λ (x : Got). Gave Got (grant (need n) (heapIn a r)) x (arenaWords a) (arenaWords b) p) y gave-need)
         (ap usable size ∙ ap (λ (j : ℕ). usable (sizeOf (heapOf (grant j (heapIn a r))) m)) (z .is)))

@@ -73,7 +73,7 @@ lent-shape a r L = (allowed, shape-true a r (L .long) allowed)
         ∙ ap (λ (t : Bool). both t (leb (length a) 262144)) (le-leb 32 (length a) (L .least)) ∙ le-leb (length a) 262144 (L .most)
 
 pub lent-sound : (a r : List ℕ) → Lent a r → SoundIn a r → Sound (heapIn a r) (arenaWords a) (wordsOf r)
-lent-sound a r L S = came-sound a r (wordsOf r) (record { long = L .long; allowed = lent-shape a r L .0; small = L .words; words = refl }) S
+lent-sound a r L S = came-sound a r (wordsOf r) (record { shape = lent-shape a r L .1; small = L .words; words = refl }) S
 
 pub lent-fine : (a r : List ℕ) → Lent a r → SoundIn a r → Fine (heapIn a r)
 lent-fine a r L S = record {

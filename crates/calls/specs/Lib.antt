@@ -1,6 +1,5 @@
 pub mod Blank
 pub mod Ways
-pub mod CacheList
 pub mod Through
 pub mod Grants
 pub mod Bytes

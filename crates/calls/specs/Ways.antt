@@ -55,11 +55,15 @@ allowed-true n e =
 pub shape-true : (a r : List ℕ) → length r ≡ 1572 → arenaAllowed? (length a) ≡ true → shape? a r ≡ true
 shape-true a r e f = rw (eq-eqb (length r) 1572 e) f
 
-pub shape-record : (a r : List ℕ) → (length r ≡ 1572 → ⊥) → shape? a r ≡ false
-shape-record a r e = rw (ne-eqb (length r) 1572 e)
+-- and what it says
+shape-parts : (a r : List ℕ) → shape? a r ≡ true → (eqb (length r) recordBytes ≡ true) × (arenaAllowed? (length a) ≡ true)
+shape-parts a r e = both-true (eqb (length r) recordBytes) (arenaAllowed? (length a)) e
 
-pub shape-arena : (a r : List ℕ) → length r ≡ 1572 → arenaAllowed? (length a) ≡ false → shape? a r ≡ false
-shape-arena a r e f = rw (eq-eqb (length r) 1572 e) f
+pub shape-long : (a r : List ℕ) → shape? a r ≡ true → length r ≡ 1572
+shape-long a r e = eqb-true (length r) recordBytes (shape-parts a r e .0)
+
+pub shape-allowed : (a r : List ℕ) → shape? a r ≡ true → arenaAllowed? (length a) ≡ true
+shape-allowed a r e = shape-parts a r e .1
 
 -- ---- open
 pub open-small : (a r : List ℕ) → eqb (length r) recordBytes ≡ false → after a r (Refused R.Shape) ≡ openCall a r

@@ -1,17 +1,13 @@
 // Audit: number 1 for a bad shape, else what the heap's audit says.
 ghost use mathlib.Core.Path.{_≡_};
 ghost use Rattle.machine.specs.Calls.{auditCall};
-use crate::shape::allowed;
+use crate::shape::shaped;
 use machine::Audited;
-use sizes::RECORD_BYTES;
 
 pub fn audit(arena: &[u8], control: &[u8]) -> Audited
     ensures { λ x. ⌜ x ≡ auditCall (now (arena .entry)) (now (control .entry)) ⌝ }
 {
-    if control.len() != RECORD_BYTES {
-        return Audited::Shape;
-    }
-    if !allowed(arena.len()) {
+    if !shaped(arena, control) {
         return Audited::Shape;
     }
     let mut r = [0u32; 393];

@@ -7,6 +7,7 @@ use machine::Answer;
 use machine::Refusal;
 use sizes::CACHE_COUNTS;
 use sizes::CACHE_LISTS;
+use sizes::Chunk;
 use sizes::LENGTH_WORD;
 use sizes::NONE32;
 use sizes::RECORD_BYTES;
@@ -41,6 +42,6 @@ pub fn open(arena: &mut [u8], control: &mut [u8]) -> Answer
     }
     fill(&mut r, n as u32, 0);
     record_words::write_words(control, &r);
-    chunk_fields::set_size(arena, 0, n as u64, 1);
+    chunk_fields::set_size(arena, Chunk(0), n as u64, true);
     Answer::Done
 }

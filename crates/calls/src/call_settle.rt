@@ -1,18 +1,14 @@
 // Settle: numbers 1 and 3 before the first write; then emptying and joining.
 ghost use mathlib.Core.Path.{_≡_};
 ghost use Rattle.machine.specs.Calls.{after, settleCall};
-use crate::shape::allowed;
+use crate::shape::shaped;
 use machine::Answer;
 use machine::Refusal;
-use sizes::RECORD_BYTES;
 
 pub fn settle(arena: &mut [u8], control: &mut [u8]) -> Answer
     ensures { λ x. ⌜ after (now (arena .exit)) (now (control .exit)) x ≡ settleCall (now (arena .entry)) (now (control .entry)) ⌝ }
 {
-    if control.len() != RECORD_BYTES {
-        return Answer::Refused(Refusal::Shape);
-    }
-    if !allowed(arena.len()) {
+    if !shaped(arena, control) {
         return Answer::Refused(Refusal::Shape);
     }
     let mut r = [0u32; 393];

@@ -2,3 +2,4 @@ pub mod Step4
 pub mod Chain
 pub mod Ways
 pub mod Top
+pub mod FromCache

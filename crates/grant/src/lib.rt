@@ -1,14 +1,18 @@
-// Grant behind the cache: document 01's steps 2 to 9 in their order, each where those before it found nothing.
+// Grant: document 01's steps 1 to 9 in their order, each where those before it found nothing. Steps 4 and 9 stand here, the others in crates of their own.
 mod step_4; // step_4.rt
 mod step_9; // step_9.rt: the top
 
 use consolidate::any_fast;
 use consolidate::consolidate;
 use machine::Got;
+use record_words::Changed;
 ghost use mathlib.Core.Path.{_≡_};
 ghost use Prim.Native.Nat.{_%_, _≤_};
 ghost use Rattle.le.specs.Arena.{arenaWords};
-ghost use Rattle.machine.specs.Grant.{pass, again, from4, seek};
+ghost use lib.ListN.{length};
+ghost use Rattle.le.specs.Number.{bytes};
+ghost use Rattle.machine.specs.Grant.{pass, again, from4, seek, grant};
+ghost use Rattle.machine.specs.Calls.{wordsOf};
 ghost use Rattle.sound.specs.Relation.{Good};
 ghost use Rattle.primitives.specs.Follow.{Has, Does};
 
@@ -71,4 +75,19 @@ pub fn seek(a: &mut [u8], r: &mut [u32], b: u64) -> Got
         return Got::At(c);
     }
     from4(a, r, b)
+}
+
+// Steps 1 to 9, and the record's bytes: a chunk from the cache changes two words of them, the other ways any.
+pub fn grant(a: &mut [u8], control: &mut [u8], r: &mut [u32], b: u64) -> Got
+    requires { ⌜ (b % 16 ≡ 0) × (32 ≤ b) × (b ≤ 262160) × Has Good (arenaWords (now a)) (now r) × (length (now control) ≡ 1572) × (now r ≡ wordsOf (now control)) ⌝ }
+    ensures { λ g. ⌜ Does Got Good (grant b) (arenaWords (now (a .entry))) (now (r .entry)) g (arenaWords (now (a .exit))) (now (r .exit)) × (now (control .exit) ≡ bytes 4 (now (r .exit))) ⌝ }
+{
+    let g1 = grant_steps_1_3::step1(a, r, b);
+    if let Got::At(c) = g1 {
+        record_words::write_changed(control, r, Changed::CacheList(sizes::cache_list(b)));
+        return Got::At(c);
+    }
+    let g = seek(a, r, b);
+    record_words::write_changed(control, r, Changed::Any);
+    g
 }

@@ -3,7 +3,6 @@
 use mathlib.Core.Path.{_≡_, refl, sym, ap, _∙_, subst}
 use mathlib.Core.Bool.{Bool, true, false}
 use mathlib.Core.List.{List, [], _∷_}
-use mathlib.Core.Logic.{inl}
 use Prim.Native.Nat.{ℕ, suc, _+_, _≤_, _<_}
 use native.Mathlib.Omega.{arith}
 use lib.Dec.{eqb, ltb}
@@ -31,7 +30,7 @@ use Rattle.sound.specs.Release.{both-true}
 use Rattle.sound.specs.RecordOf.{record-remainder, record-withRemainder}
 use Rattle.primitives.specs.Follow.{Ok, Gave, Does}
 use Rattle.primitives.specs.FollowLaws.{gave-by, gave-then, gave-giving, gave-none, gave-ok}
-use Rattle.primitives.specs.Places.{Home}
+use Rattle.primitives.specs.Places.{InBin}
 use Rattle.primitives.specs.Chunks.{Chunk, Inside, in-bytes, start-chunk}
 use Rattle.primitives.specs.Sizes.{chunk-says, set-p-gave}
 use Rattle.primitives.specs.Bins.{ok-bin, ok-first, ok-last}
@@ -145,8 +144,8 @@ takeOut b c h = elim (eqb (sizeOf h c) b) [
 ]
 
 module _ (h : Heap) (w r : List ℕ) (c z : ℕ) (o : Ok h w r) (U : Waits h c z) where
-  pub home-unsorted : Home h unsorted c z
-  home-unsorted = record { here = U .here; low = omega arith; which = inl refl }
+  pub in-unsorted : InBin h unsorted c
+  in-unsorted = record { here = U .here; low = omega arith }
 
   -- the chunk after it is not the top
   next-chunk : Chunk w (c + z)
@@ -155,7 +154,10 @@ module _ (h : Heap) (w r : List ℕ) (c z : ℕ) (o : Ok h w r) (U : Waits h c z
       start-chunk h w (o .shape) (o .mem) (c + z) (omega (arith, starts-all h (c + z)))
 
   -- out of unsorted
-  module _ (v₁ q₁ : List ℕ) (m : Gave (Unit {0}) (unlink unsorted c h) tt w v₁ q₁) where
+  module _ (v₁ q₁ : List ℕ) (D : Does (Unit {0}) (λ h. InBin h unsorted c) (unlink unsorted c) w r tt v₁ q₁) where
+    m : Gave (Unit {0}) (unlink unsorted c h) tt w v₁ q₁
+    m = D .does h o in-unsorted
+
     abbrev H₁ : Heap
     H₁ = heapOf (unlink unsorted c h)
 

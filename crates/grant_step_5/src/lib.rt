@@ -8,6 +8,7 @@ use machine::Turn;
 use primitives::set_p;
 use primitives::take_cache;
 use primitives::unlink;
+use sizes::Chunk;
 use sizes::LARGE;
 use sizes::MOST_BINNED;
 use sizes::NONE32;
@@ -27,43 +28,43 @@ ghost use Rattle.grant_step_5.specs.Turns.{Waits, loneIn, takeOut};
 ghost use Rattle.grant_step_5.specs.Loop.{Full};
 
 // Whether c, the last of unsorted and of size z, is the only one, the last remainder, and large enough to be split for a small b.
-fn is_lone(r: &[u32], b: u64, c: u32, z: u64) -> bool
+fn is_lone(r: &[u32], c: Chunk, z: u64, b: u64) -> bool
     requires { ⌜ length (now r) ≡ 393 ⌝ }
-    ensures { λ t. ⌜ t ≡ loneIn (now (r .entry)) b c z ⌝ }
+    ensures { λ t. ⌜ t ≡ loneIn (now (r .entry)) b (c .0) z ⌝ }
 {
     if LARGE <= b {
         return false;
     }
-    if r[sizes::bin_first(UNSORTED)] != c {
+    if r[sizes::bin_first(UNSORTED)] as u64 != c.0 {
         return false;
     }
-    if r[REMAINDER_WORD] != c {
+    if r[REMAINDER_WORD] as u64 != c.0 {
         return false;
     }
     b + 32 < z
 }
 
 // c, the lone chunk, is split at b: the rest stays the one unsorted chunk and becomes last remainder.
-fn split_lone(a: &mut [u8], r: &mut [u32], b: u64, c: u64, z: u64)
-    requires { ⌜ (b % 16 ≡ 0) × (32 ≤ b) × (b + 32 < z) × Has (λ h. Waits h c z) (arenaWords (now a)) (now r) ⌝ }
-    ensures { λ _. ⌜ Does Turn (λ h. Waits h c z) (splitLone b c) (arenaWords (now (a .entry))) (now (r .entry)) (Granted c) (arenaWords (now (a .exit))) (now (r .exit)) ⌝ }
+fn split_lone(a: &mut [u8], r: &mut [u32], c: Chunk, z: u64, b: u64)
+    requires { ⌜ (b % 16 ≡ 0) × (32 ≤ b) × (b + 32 < z) × Has (λ h. Waits h (c .0) z) (arenaWords (now a)) (now r) ⌝ }
+    ensures { λ _. ⌜ Does Turn (λ h. Waits h (c .0) z) (splitLone b (c .0)) (arenaWords (now (a .entry))) (now (r .entry)) (Granted (c .0)) (arenaWords (now (a .exit))) (now (r .exit)) ⌝ }
 {
-    unlink(a, r, c, z);
+    unlink(a, r, UNSORTED, c);
     split(a, r, c, z, b);
-    r[REMAINDER_WORD] = (c + b) as u32;
+    r[REMAINDER_WORD] = (c.0 + b) as u32;
 }
 
 // c, an unsorted chunk of size z, is taken out: kept if its size is b, else binned.
-fn take_out(a: &mut [u8], r: &mut [u32], b: u64, c: u32, z: u64) -> Turn
-    requires { ⌜ (32 ≤ b) × Has (λ h. Waits h c z) (arenaWords (now a)) (now r) ⌝ }
-    ensures { λ t. ⌜ Does Turn (λ h. Waits h c z) (takeOut b c) (arenaWords (now (a .entry))) (now (r .entry)) t (arenaWords (now (a .exit))) (now (r .exit)) ⌝ }
+fn take_out(a: &mut [u8], r: &mut [u32], c: Chunk, z: u64, b: u64) -> Turn
+    requires { ⌜ (32 ≤ b) × Has (λ h. Waits h (c .0) z) (arenaWords (now a)) (now r) ⌝ }
+    ensures { λ t. ⌜ Does Turn (λ h. Waits h (c .0) z) (takeOut b (c .0)) (arenaWords (now (a .entry))) (now (r .entry)) t (arenaWords (now (a .exit))) (now (r .exit)) ⌝ }
 {
-    unlink(a, r, c as u64, z);
+    unlink(a, r, UNSORTED, c);
     if z == b {
-        set_p(a, c as u64 + z);
-        return keep(a, r, b, c);
+        set_p(a, Chunk(c.0 + z));
+        return keep(a, r, c, b);
     }
-    sort_in(a, r, c as u64, z);
+    sort_in(a, r, c, z);
     Turn::Binned
 }
 
@@ -72,16 +73,17 @@ fn turn(a: &mut [u8], r: &mut [u32], b: u64) -> Turn
     requires { ⌜ (b % 16 ≡ 0) × (32 ≤ b) × Has Good (arenaWords (now a)) (now r) ⌝ }
     ensures { λ t. ⌜ Does Turn Good (turn b) (arenaWords (now (a .entry))) (now (r .entry)) t (arenaWords (now (a .exit))) (now (r .exit)) ⌝ }
 {
-    let c = r[sizes::bin_last(UNSORTED)];
-    if c == NONE32 {
+    let last = r[sizes::bin_last(UNSORTED)];
+    if last == NONE32 {
         return Turn::Empty;
     }
-    let z = size_at(a, c as u64);
-    if is_lone(r, b, c, z) {
-        split_lone(a, r, b, c as u64, z);
-        return Turn::Granted(c);
+    let c = Chunk(last as u64);
+    let z = size_at(a, c);
+    if is_lone(r, c, z, b) {
+        split_lone(a, r, c, z, b);
+        return Turn::Granted(last);
     }
-    take_out(a, r, b, c, z)
+    take_out(a, r, c, z, b)
 }
 
 // The end: the head of b's cache list if one was cached.
@@ -91,7 +93,8 @@ fn swept(a: &[u8], r: &mut [u32], b: u64, got: bool) -> Got
 {
     if got {
         let k = sizes::cache_list(b);
-        return Got::At(take_cache(a, r, k) as u32);
+        let c = take_cache(a, r, k);
+        return Got::At(c.0 as u32);
     }
     Got::Nothing
 }

@@ -1,15 +1,15 @@
 // Where a chunk goes that no list has, in document 01's step 5: into its bin, or, if it has the size that is asked for, to the cache or to the caller.
+use chunk_fields::Link;
 use chunk_fields::fwd_at;
 use chunk_fields::link_of;
 use chunk_fields::size_at;
 use machine::Turn;
+use primitives::cache_takes;
 use primitives::link_in;
 use primitives::push_cache;
 use primitives::put_first;
-use sizes::CACHE_COUNTS;
-use sizes::CACHE_ROOM;
+use sizes::Chunk;
 use sizes::LARGE;
-use sizes::MOST_CACHED;
 use sizes::NONE64;
 ghost use mathlib.Core.Path.{_≡_};
 ghost use Prim.Native.Nat.{_≤_};
@@ -21,40 +21,39 @@ ghost use Rattle.sound.specs.Relation.{Loose};
 ghost use Rattle.primitives.specs.Follow.{Has, Does};
 ghost use Rattle.grant_step_5.specs.Newcomer.{Goes};
 
-// The neighbours that a newcomer gets in a bin, NONE64 where there is none.
-pub struct Gap {
-    pub p: u64,
-    pub n: u64,
+// The neighbours that a newcomer gets in a bin; NONE64 where there is none.
+pub struct Neighbours {
+    pub p: Link,
+    pub n: Link,
 }
 
 // Between which chunks of large bin j a newcomer of size z goes.
-fn place(a: &[u8], r: &[u32], j: usize, z: u64) -> Gap
+fn place(a: &[u8], r: &[u32], j: usize, z: u64) -> Neighbours
     requires { ⌜ (1 ≤ j) × (j ≤ 126) × Has (λ h. Unit {0}) (arenaWords (now a)) (now r) ⌝ }
-    ensures { λ g. ⌜ Goes j z (g .p) (g .n) (arenaWords (now (a .entry))) (now (r .entry)) ⌝ }
+    ensures { λ g. ⌜ Goes j z (g .p .0) (g .n .0) (arenaWords (now (a .entry))) (now (r .entry)) ⌝ }
 {
-    let mut p = NONE64;
+    let mut p = Link(NONE64);
     let mut n = link_of(r[sizes::bin_first(j)]);
-    while n != NONE64 {
-        let s = size_at(a, n);
+    while n.0 != NONE64 {
+        let x = Chunk(n.0);
+        let s = size_at(a, x);
         if s < z {
-            return Gap { p: p, n: n };
+            return Neighbours { p, n };
         }
+        let after = fwd_at(a, x);
         if s == z {
-            return Gap {
-                p: n,
-                n: fwd_at(a, n),
-            };
+            return Neighbours { p: n, n: after };
         }
         p = n;
-        n = fwd_at(a, n);
+        n = after;
     }
-    Gap { p: p, n: n }
+    Neighbours { p, n }
 }
 
 // c, of size z, which no list has, goes into its bin.
-pub fn sort_in(a: &mut [u8], r: &mut [u32], c: u64, z: u64)
-    requires { ⌜ Has (λ h. Loose h c × (sizeOf h c ≡ z)) (arenaWords (now a)) (now r) ⌝ }
-    ensures { λ _. ⌜ Does (Unit {0}) (λ h. Loose h c × (sizeOf h c ≡ z)) (sortIn c) (arenaWords (now (a .entry))) (now (r .entry)) tt (arenaWords (now (a .exit))) (now (r .exit)) ⌝ }
+pub fn sort_in(a: &mut [u8], r: &mut [u32], c: Chunk, z: u64)
+    requires { ⌜ Has (λ h. Loose h (c .0) × (sizeOf h (c .0) ≡ z)) (arenaWords (now a)) (now r) ⌝ }
+    ensures { λ _. ⌜ Does (Unit {0}) (λ h. Loose h (c .0) × (sizeOf h (c .0) ≡ z)) (sortIn (c .0)) (arenaWords (now (a .entry))) (now (r .entry)) tt (arenaWords (now (a .exit))) (now (r .exit)) ⌝ }
 {
     let j = sizes::bin_of(z);
     if z < LARGE {
@@ -62,21 +61,19 @@ pub fn sort_in(a: &mut [u8], r: &mut [u32], c: u64, z: u64)
         return;
     }
     let g = place(a, r, j, z);
-    link_in(a, r, j, c, g.p, g.n);
+    let p = g.p;
+    let n = g.n;
+    link_in(a, r, j, c, p, n);
 }
 
 // c, of size b, which no list has, is cached if its cache list has room, else granted.
-pub fn keep(a: &mut [u8], r: &mut [u32], b: u64, c: u32) -> Turn
-    requires { ⌜ (32 ≤ b) × Has (λ h. Loose h c) (arenaWords (now a)) (now r) ⌝ }
-    ensures { λ t. ⌜ Does Turn (λ h. Loose h c) (keep b c) (arenaWords (now (a .entry))) (now (r .entry)) t (arenaWords (now (a .exit))) (now (r .exit)) ⌝ }
+pub fn keep(a: &mut [u8], r: &mut [u32], c: Chunk, b: u64) -> Turn
+    requires { ⌜ (32 ≤ b) × Has (λ h. Loose h (c .0)) (arenaWords (now a)) (now r) ⌝ }
+    ensures { λ t. ⌜ Does Turn (λ h. Loose h (c .0)) (keep b (c .0)) (arenaWords (now (a .entry))) (now (r .entry)) t (arenaWords (now (a .exit))) (now (r .exit)) ⌝ }
 {
-    if MOST_CACHED < b {
-        return Turn::Granted(c);
+    if cache_takes(r, b) {
+        push_cache(a, r, sizes::cache_list(b), c);
+        return Turn::Cached;
     }
-    let k = sizes::cache_list(b);
-    if CACHE_ROOM <= r[CACHE_COUNTS + k] {
-        return Turn::Granted(c);
-    }
-    push_cache(a, r, k, c as u64);
-    Turn::Cached
+    Turn::Granted(c.0 as u32)
 }

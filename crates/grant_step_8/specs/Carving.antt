@@ -30,7 +30,7 @@ use Rattle.sound.specs.Carve.{take-out, split-is}
 use Rattle.sound.specs.RecordOf.{record-withRemainder, record-tiles}
 use Rattle.primitives.specs.Follow.{Ok, Has, Gave, Does}
 use Rattle.primitives.specs.FollowLaws.{gave-by, gave-then, gave-more, gave-giving, gave-ok}
-use Rattle.primitives.specs.Places.{Home}
+use Rattle.primitives.specs.Places.{InBin, Home, home-in}
 use Rattle.primitives.specs.Chunks.{in-bytes, start-chunk, loose-chunk}
 use Rattle.primitives.specs.Sizes.{chunk-says, set-p-gave}
 use Rattle.grant_step_8.specs.Taken.{Taken, Fit}
@@ -222,21 +222,27 @@ home h j c g mc = record { here = mc; low = one j mc; which = which j mc }
     which : (j : ℕ) → 1 ≤ cnt c (bin h j) → (j ≡ unsorted) ⊎ (j ≡ binOf (sizeOf h c))
     which j m = ⊎-elim (λ l. inl (omega (arith, one j m, l))) (λ l. inr (sym (g .homes .sorted j c l m))) (lt-or-le j 2)
 
-module _ (h : Heap) (w r : List ℕ) (j c z b : ℕ) (new? : Bool) (o : Ok h w r) (g : Good h) (F : Fit h j c b) (e : z ≡ sizeAt w c) where
+pub fit-in : (h : Heap) (j c b : ℕ) → Good h → Fit h j c b → InBin h j c
+fit-in h j c b g F = home-in h j c (sizeOf h c) (home h j c g (F .here))
+
+module _ (h : Heap) (w r : List ℕ) (j c z b : ℕ) (o : Ok h w r) (g : Good h) (F : Fit h j c b) (e : z ≡ sizeAt w c) where
   pub size-fit : z ≡ sizeOf h c
   size-fit = e ∙ chunk-says h (o .shape) w (o .mem) c (omega (arith, o .shape .own c, F .here, cnt-le-all c (h .bins) j)) .size
 
-  pub home-fit : Home h j c z
-  home-fit = subst (λ (z : ℕ). Home h j c z) (sym size-fit) (home h j c g (F .here))
+  module _ (v q : List ℕ) (d : Does (Unit {0}) (λ h. InBin h j c) (unlink j c) w r tt v q) where
+    m : Gave (Unit {0}) (unlink j c h) tt w v q
+    m = d .does h o (fit-in h j c b g F)
 
-  module _ (v q : List ℕ) (m : Gave (Unit {0}) (unlink j c h) tt w v q) where
-    pub unlinked-ok : Ok (heapOf (unlink j c h)) v q
+    unlinked-ok : Ok (heapOf (unlink j c h)) v q
     unlinked-ok = gave-ok (unlink j c h) tt (unlink-shape h j c (o .shape) (F .here)) (unlink-mem h w j c (o .shape) (o .mem) (F .here)) m
 
-    pub unlinked-taken : Taken (heapOf (unlink j c h)) c z
+    unlinked-taken : Taken (heapOf (unlink j c h)) c z
     unlinked-taken = subst (λ (z : ℕ). Taken (heapOf (unlink j c h)) c z) (sym size-fit) (unlinked h j c g (F .here))
 
-    pub step8-gave : (v′ q′ : List ℕ) → Does (Unit {0}) (λ g. Taken g c z) (carve c b new?) v q tt v′ q′ → Gave Got (step8 j c b new? h) (At c) w v′ q′
+    pub unlinked-has : Has (λ g. Taken g c z) v q
+    unlinked-has = record { heap = heapOf (unlink j c h); ok = unlinked-ok; holds = unlinked-taken }
+
+    pub step8-gave : (new? : Bool) (v′ q′ : List ℕ) → Does (Unit {0}) (λ g. Taken g c z) (carve c b new?) v q tt v′ q′ → Gave Got (step8 j c b new? h) (At c) w v′ q′
     unfolding step8
-    step8-gave v′ q′ d =
-        gave-giving (unlink j c h >>= (λ g. carve c b new? g)) tt (At c) (gave-then (unlink j c h) (λ g. carve c b new? g) tt tt m (d .does (heapOf (unlink j c h)) unlinked-ok unlinked-taken))
+    step8-gave new? v′ q′ k =
+        gave-giving (unlink j c h >>= (λ g. carve c b new? g)) tt (At c) (gave-then (unlink j c h) (λ g. carve c b new? g) tt tt m (k .does (heapOf (unlink j c h)) unlinked-ok unlinked-taken))

@@ -38,7 +38,7 @@ use Rattle.sound.specs.Take.{takeLast-leaves}
 use Rattle.sound.specs.Small.{some-has}
 use Rattle.primitives.specs.Follow.{Ok, Has, Gave, Does}
 use Rattle.primitives.specs.FollowLaws.{gave-by, gave-then, gave-ok}
-use Rattle.primitives.specs.Places.{Home, Binned}
+use Rattle.primitives.specs.Places.{InBin, Home, home-in}
 use Rattle.primitives.specs.Chunks.{Chunk, Inside, in-bytes, start-chunk, bin-chunk}
 use Rattle.primitives.specs.Sizes.{set-p-gave}
 use Rattle.primitives.specs.Stacks.{ok-cacheCount}
@@ -82,17 +82,20 @@ module _ (b : ℕ) (b16 : b % 16 ≡ 0) (b32 : 32 ≤ b) (b1024 : b < 1024) wher
         subst (λ (n : ℕ). 1 ≤ cnt n (starts h)) (sym e)
         (omega (arith, ap (λ (k : List Tile). cnt n (startsFrom 0 k)) (O .out .tiles), starts-append 0 (P .a) (P .t ∷ O .u ∷ O .z) n, ind-same n))
 
-    pub last-home : Home h (binOf b) c b
+    last-home : Home h (binOf b) c b
     last-home = record { here = L .here; low = low; which = inr refl }
 
-    pub last-binned : Binned h c b
-    last-binned = record { bin-no = binOf b; home = last-home }
+    pub last-in : (j : ℕ) → j ≡ binOf b → InBin h j c
+    last-in j e = subst (λ (i : ℕ). InBin h i c) (sym e) (home-in h (binOf b) c b last-home)
 
     module _ (w r : List ℕ) (o : Ok h w r) where
       pub last-small : c + 32 ≤ 262144
       last-small = bin-chunk h w (o .shape) (o .mem) (binOf b) c (L .here) .small
 
-      module _ (v q : List ℕ) (m : Gave (Unit {0}) (unlink (binOf b) c h) tt w v q) where
+      module _ (j : ℕ) (ej : j ≡ binOf b) (v q : List ℕ) (d : Does (Unit {0}) (λ h. InBin h j c) (unlink j c) w r tt v q) where
+        m : Gave (Unit {0}) (unlink (binOf b) c h) tt w v q
+        m = subst (λ (i : ℕ). Gave (Unit {0}) (unlink i c h) tt w v q) ej (d .does h o (last-in j ej))
+
         unlinked-ok : Ok (heapOf (unlink (binOf b) c h)) v q
         unlinked-ok = gave-ok (unlink (binOf b) c h) tt (unlink-shape h (binOf b) c (o .shape) (L .here)) (unlink-mem h w (binOf b) c (o .shape) (o .mem) (L .here)) m
 

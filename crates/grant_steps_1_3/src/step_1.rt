@@ -23,5 +23,5 @@ pub fn step1(a: &mut [u8], r: &mut [u32], b: u64) -> Got
         return Got::Nothing;
     }
     let c = take_cache(a, r, k);
-    Got::At(c as u32)
+    Got::At(c.0 as u32)
 }

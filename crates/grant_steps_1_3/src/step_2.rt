@@ -44,5 +44,5 @@ pub fn step2(a: &mut [u8], r: &mut [u32], b: u64) -> Got
     }
     let c = take_fast(a, r, f);
     move_fast(a, r, b);
-    Got::At(c as u32)
+    Got::At(c.0 as u32)
 }

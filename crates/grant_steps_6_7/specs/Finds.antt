@@ -81,11 +81,7 @@ backFrom (suc n) w c = elim (eqb c none64) [ true ↦ [] | false ↦ c ∷ backF
 unfoldable pub left : List ℕ → ℕ → ℕ
 left w c = length (backFrom (length w) w c)
 
--- ---- a bin's number, 0 where there is none
-unfoldable pub binGot : ℕ → Got
-binGot i = elim (eqb i 0) [ true ↦ Nothing | false ↦ At i ]
-
--- i is the first non-empty bin above j
-pub record FirstBin (r : List ℕ) (j i : ℕ) : Type 0 where
-  pub most : i ≤ lastBin
-  pub is : (h : Heap) (w : List ℕ) → Ok h w r → firstBin (lastBin - j) (suc j) h ≡ binGot i
+-- ---- g tells the first non-empty bin above j
+pub record FirstBin (r : List ℕ) (j : ℕ) (g : Got) : Type 0 where
+  pub most : (i : ℕ) → g ≡ At i → i ≤ lastBin
+  pub is : (h : Heap) (w : List ℕ) → Ok h w r → firstBin (lastBin - j) (suc j) h ≡ g

@@ -26,14 +26,14 @@ use Rattle.sound.specs.Tiles.{lt-or-le}
 use Rattle.sound.specs.Lists.{lst-in, links-split}
 use Rattle.sound.specs.Small.{some-has}
 use Rattle.sound.specs.Large.{fit-has, firstBin-has}
-use Rattle.primitives.specs.Follow.{Ok, Gave}
-use Rattle.primitives.specs.FollowLaws.{gave-by, gave-none}
+use Rattle.primitives.specs.Follow.{Ok, Has, Gave, Does}
+use Rattle.primitives.specs.FollowLaws.{gave-by, gave-none, got-absurd}
 use Rattle.primitives.specs.Chunks.{Chunk, Chunks, Inside, in-bytes, bin-chunk}
 use Rattle.primitives.specs.Sizes.{chunk-says}
 use Rattle.primitives.specs.Ends.{Leads, lst-leads}
 use Rattle.primitives.specs.Bins.{ok-bin, ok-last}
 use Rattle.grant_step_8.specs.Taken.{Fit}
-use Rattle.grant_steps_6_7.specs.Finds.{Back, LastFit, equalAt, Spelled, Stands, Standing, Run, Running, SecondEqual, left, binGot, FirstBin}
+use Rattle.grant_steps_6_7.specs.Finds.{Back, LastFit, equalAt, Spelled, Stands, Standing, Run, Running, SecondEqual, left, FirstBin}
 use Rattle.grant_steps_6_7.specs.Falling.{fit-none, fit-second}
 use Rattle.grant_steps_6_7.specs.Backward.{Tip, tip, tip-parts, left-less, snoc-back}
 
@@ -260,14 +260,16 @@ module _ (h : Heap) (w r : List ℕ) (b c : ℕ) (o : Ok h w r) (large : 1024 �
           (found-stands .parts ∙ sym (append-assoc xs (c ∷ []) ys) ∙ ap (λ (l : List ℕ). l ++ ys) (K .parts) ∙ append-assoc (K .front) (K .eqs) ys)
           (K .same) (L .back .small) (omega arith) (L .enough ne) (K .stop) (K .is)
 
-      pub found-fit : Fit h (binOf b) d b
+      found-fit : Fit h (binOf b) d b
       found-fit = let k = fit-has (λ x. sizeOf h x) b own d found-second in record { here = k .0; enough = k .1 }
 
-      pub found-fits32 : d < 2 ^ 32
-      found-fits32 = omega (arith, bin-chunk h w (o .shape) (o .mem) (binOf b) d (found-fit .here) .small)
+      pub found-has : (j : ℕ) → j ≡ binOf b → Has (λ h. Good h × Fit h j d b) w r
+      found-has j ej = record { heap = h; ok = o; holds = (g, subst (λ (j : ℕ). Fit h j d b) (sym ej) found-fit) }
 
-      pub found-gave : (a : Got) (v q : List ℕ) → Gave Got (step8 (binOf b) d b false h) a w v q → Gave Got (step6 b h) a w v q
-      found-gave a v q m =
+      pub found-gave : (j : ℕ) → j ≡ binOf b → (a : Got) (v q : List ℕ) → Does Got (λ h. Good h × Fit h j d b) (step8 j d b false) w r a v q → Gave Got (step6 b h) a w v q
+      found-gave j ej a v q D =
+          let m : Gave Got (step8 (binOf b) d b false h) a w v q =
+          subst (λ (j : ℕ). Does Got (λ h. Good h × Fit h j d b) (step8 j d b false) w r a v q) ej D .does h o (g, found-fit) in
           gave-by (step6-is b h large ∙ ap (λ (x : Got). elim x [ At c ↦ step8 (binOf b) c b false h | Nothing ↦ nothing h ]) found-second) m
 
 -- ---- the first bin above, by the ends that the record has
@@ -295,13 +297,8 @@ firstBin-next n i h e = rw (e, firstBin)
 firstBin-at : (n m i j : ℕ) (h : Heap) → n ≡ m → i ≡ j → firstBin n i h ≡ firstBin m j h
 firstBin-at n m i j h e q = cc
 
-binGot-at : (i : ℕ) → (i ≡ 0 → ⊥) → binGot i ≡ At i
-unfolding binGot
-binGot-at i ne = rw (ne-eqb i 0 ne, binGot)
-
-binGot-none : binGot 0 ≡ Nothing
-unfolding binGot
-binGot-none = refl
+at-same : {x y : ℕ} → _≡_ {A = Got} (At x) (At y) → x ≡ y
+at-same e = cc
 
 -- from bin i on the search goes as from the start
 abbrev pub Seeking : List ℕ → ℕ → ℕ → Type 0
@@ -312,11 +309,11 @@ module _ (r : List ℕ) (j : ℕ) where
   seek-start i e h w o = firstBin-at (127 - i) (lastBin - j) i (suc j) h (omega arith) (omega arith)
 
   module _ (i : ℕ) (low : 1 ≤ i) (high : i ≤ 126) (S : Seeking r j i) where
-    pub seek-found : (at : ℕ) → at ≡ binLast i → (getD r at 0 ≡ none32 → ⊥) → FirstBin r j i
+    pub seek-found : (at : ℕ) → at ≡ binLast i → (getD r at 0 ≡ none32 → ⊥) → FirstBin r j (At i)
     seek-found at e ne = record {
-      most = high;
+      most = λ k f. subst (λ (n : ℕ). n ≤ 126) (at-same f) high;
       is = λ h w o. sym (S h w o) ∙ firstBin-at (127 - i) (suc (126 - i)) i i h (omega arith) refl
-          ∙ firstBin-here (126 - i) i h (last-some h w r o i low high (λ z. ne (ap (λ (n : ℕ). getD r n 0) e ∙ z))) ∙ sym (binGot-at i (λ z. omega arith));
+          ∙ firstBin-here (126 - i) i h (last-some h w r o i low high (λ z. ne (ap (λ (n : ℕ). getD r n 0) e ∙ z)));
     }
 
     pub seek-next : (at : ℕ) → at ≡ binLast i → getD r at 0 ≡ none32 → Seeking r j (i + 1)
@@ -324,27 +321,27 @@ module _ (r : List ℕ) (j : ℕ) where
         firstBin-at (127 - (i + 1)) (126 - i) (i + 1) (suc i) h (omega arith) (omega arith) ∙ sym (firstBin-next (126 - i) i h (last-none h w r o i low high (ap (λ (n : ℕ). getD r n 0) (sym q) ∙ e)))
         ∙ firstBin-at (suc (126 - i)) (127 - i) i i h (omega arith) refl ∙ S h w o
 
-  pub seek-end : (i : ℕ) → 127 ≤ i → Seeking r j i → FirstBin r j 0
-  seek-end i l S = record { most = omega arith; is = λ h w o. sym (S h w o) ∙ firstBin-at (127 - i) 0 i i h (omega arith) refl ∙ sym binGot-none }
+  pub seek-end : (i : ℕ) → 127 ≤ i → Seeking r j i → FirstBin r j Nothing
+  seek-end i l S = record { most = λ k f. got-absurd (sym f); is = λ h w o. sym (S h w o) ∙ firstBin-at (127 - i) 0 i i h (omega arith) refl }
 
 -- ---- step 7
-pub own-first : (r : List ℕ) (j b i : ℕ) → j ≡ binOf b → FirstBin r j i → FirstBin r (binOf b) i
-own-first r j b i e B = subst (λ (j : ℕ). FirstBin r j i) e B
+pub own-first : (r : List ℕ) (j b : ℕ) (g : Got) → j ≡ binOf b → FirstBin r j g → FirstBin r (binOf b) g
+own-first r j b g e B = subst (λ (j : ℕ). FirstBin r j g) e B
 
-module _ (h : Heap) (w r : List ℕ) (b i : ℕ) (o : Ok h w r) (B : FirstBin r (binOf b) i) where
-  step7-is : (x : Got) → binGot i ≡ x → step7 b h ≡ elim x [ At j ↦ step8 j (lst none64 (bin h j)) b (ltb b 1024) h | Nothing ↦ nothing h ]
+module _ (h : Heap) (w r : List ℕ) (b : ℕ) (x : Got) (o : Ok h w r) (B : FirstBin r (binOf b) x) where
+  step7-is : (y : Got) → x ≡ y → step7 b h ≡ elim y [ At j ↦ step8 j (lst none64 (bin h j)) b (ltb b 1024) h | Nothing ↦ nothing h ]
   unfolding step7
-  step7-is x e = ap (λ (x : Got). elim x [ At j ↦ step8 j (lst none64 (bin h j)) b (ltb b large) h | Nothing ↦ nothing h ]) (B .is h w o ∙ e)
+  step7-is y e = ap (λ (x : Got). elim x [ At j ↦ step8 j (lst none64 (bin h j)) b (ltb b large) h | Nothing ↦ nothing h ]) (B .is h w o ∙ e)
 
-  pub above-none : i ≡ 0 → Gave Got (step7 b h) Nothing w w r
-  above-none e = gave-by (step7-is Nothing (ap binGot e ∙ binGot-none)) (gave-none h Nothing w r (o .rec))
+  pub above-none : x ≡ Nothing → Gave Got (step7 b h) Nothing w w r
+  above-none e = gave-by (step7-is Nothing e) (gave-none h Nothing w r (o .rec))
 
-  module _ (ne : i ≡ 0 → ⊥) (g : Good h) (b32 : 32 ≤ b) (at : ℕ) (q : at ≡ binLast i) where
+  module _ (i : ℕ) (e : x ≡ At i) (g : Good h) (b32 : 32 ≤ b) (at : ℕ) (q : at ≡ binLast i) where
     above-has : (some? (bin h i) ≡ true) × (suc (binOf b) ≤ i)
-    above-has = firstBin-has (lastBin - binOf b) (suc (binOf b)) h i (B .is h w o ∙ binGot-at i ne)
+    above-has = firstBin-has (lastBin - binOf b) (suc (binOf b)) h i (B .is h w o ∙ e)
 
     above-word : getD r at 0 ≡ lst none64 (bin h i)
-    above-word = ap (λ (n : ℕ). getD r n 0) q ∙ go (bin h i) (above-has .0) (ok-last h w r o i (omega (arith, above-has .1)) (B .most))
+    above-word = ap (λ (n : ℕ). getD r n 0) q ∙ go (bin h i) (above-has .0) (ok-last h w r o i (omega (arith, above-has .1)) (B .most i e))
       where
         go : (l : List ℕ) → some? l ≡ true → getD r (binLast i) 0 ≡ lst none32 l → getD r (binLast i) 0 ≡ lst none64 l
         go [] t e = let u : _≡_ {A = ℕ} 0 1 = cc in absurd (omega arith)
@@ -357,6 +354,8 @@ module _ (h : Heap) (w r : List ℕ) (b i : ℕ) (o : Ok h w r) (B : FirstBin r 
         let so : binOf (sizeOf h c) ≡ i = g .homes .sorted i c (omega (arith, above-has .1, binOf-bounds b b32 .0)) mc in
         record { here = mc; enough = ⊎-elim (λ l. absurd (omega (arith, so, above-has .1, bin-monotone (sizeOf h c) b (omega (arith, l))))) (λ l. l) (lt-or-le (sizeOf h c) b) })
 
-    pub above-gave : (a : Got) (v u : List ℕ) → Gave Got (step8 i (getD r at 0) b (ltb b 1024) h) a w v u → Gave Got (step7 b h) a w v u
-    above-gave a v u m =
-        gave-by (step7-is (At i) (binGot-at i ne)) (subst (λ (c : ℕ). Gave Got (step8 i c b (ltb b 1024) h) a w v u) above-word m)
+    pub above-gave : (new? : Bool) → new? ≡ ltb b 1024 → (a : Got) (v u : List ℕ) → Does Got (λ h. Good h × Fit h i (getD r at 0) b) (step8 i (getD r at 0) b new?) w r a v u
+        → Gave Got (step7 b h) a w v u
+    above-gave new? n a v u D =
+        let m : Gave Got (step8 i (getD r at 0) b (ltb b 1024) h) a w v u = subst (λ (t : Bool). Gave Got (step8 i (getD r at 0) b t h) a w v u) n (D .does h o (g, above-fit)) in
+        gave-by (step7-is (At i) e) (subst (λ (c : ℕ). Gave Got (step8 i c b (ltb b 1024) h) a w v u) above-word m)

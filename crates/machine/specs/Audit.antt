@@ -41,10 +41,10 @@ tileFault w top o (t ∷ ts) = elim (tileOk w o) [ true ↦ tileFault w top (o +
 
 -- ---- Lists. Whether the chunk c may stand in a list of this kind after the chunk p (none64: first) and n chunks in all: a size of its own,
 -- the back link, the order, not more than 7
-abbrev pub fits : ListKind → List ℕ → ℕ → ℕ → ℕ → Bool
-fits (Cache k) w p n c = both (eqb (sizeAt w c) (32 + 16 * k)) (ltb n cacheRoom)
-fits (Fast k) w p n c = both (eqb (sizeAt w c) (32 + 16 * k)) (leb (sizeAt w c) mostFast)
-fits (Bin j) w p n c =
+abbrev pub mayStand : ListKind → List ℕ → ℕ → ℕ → ℕ → Bool
+mayStand (Cache k) w p n c = both (eqb (sizeAt w c) (32 + 16 * k)) (ltb n cacheRoom)
+mayStand (Fast k) w p n c = both (eqb (sizeAt w c) (32 + 16 * k)) (leb (sizeAt w c) mostFast)
+mayStand (Bin j) w p n c =
     both (either (eqb j unsorted) (eqb (binOf (sizeAt w c)) j))
     (both (eqb (getD w (backWord c) 0) p)
     (either (ltb j 64) (either (eqb p none64) (leb (sizeAt w c) (sizeAt w p)))))
@@ -58,7 +58,7 @@ mayEnd (Bin j) r p n = eqb (up (getD r (binLast j) 0)) p
 -- left: the chunks, the top not among them, that were not met before
 unfoldable pub goodFrom : ListKind → List ℕ → List ℕ → List ℕ → ℕ → ℕ → List ℕ → Bool
 goodFrom k w r left p n [] = mayEnd k r p n
-goodFrom k w r left p n (c ∷ l) = both (both (has? c left) (fits k w p n c)) (goodFrom k w r (without c left) c (suc n) l)
+goodFrom k w r left p n (c ∷ l) = both (both (has? c left) (mayStand k w p n c)) (goodFrom k w r (without c left) c (suc n) l)
 
 -- list after list, from number i on
 unfoldable pub listFault : List ℕ → List ℕ → ℕ → List ℕ → List (List ℕ) → Audited

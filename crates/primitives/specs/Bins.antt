@@ -21,10 +21,10 @@ use Rattle.sound.specs.Frames.{apply-append, Starts, starts-all, Grid, grid}
 use Rattle.chunk_fields.specs.Links.{down}
 use Rattle.sound.specs.Lists.{cut, cut-cnt, lst-append, lst-in, links-split, in-range}
 use Rattle.sound.specs.RecordOf.{record-binFirst, record-binLast, record-withBin}
-use Rattle.primitives.specs.Follow.{Ok, Gave}
-use Rattle.primitives.specs.Places.{Gap, Home}
+use Rattle.primitives.specs.Follow.{Ok, Gave, Does}
+use Rattle.primitives.specs.Places.{Gap, InBin, Home, home-in}
 use Rattle.primitives.specs.Chunks.{Chunk, Chunks, Inside, in-bytes, loose-chunk, bin-chunk, down-chunk, up-hd, down-hd, down-lst, hd-fits, lst-fits}
-use Rattle.primitives.specs.Ends.{linkFwd, linkBack, linkEnd, binBy, Leads, binBy-same, binBy-other, not-none, fwd-words, back-words, hd-leads, lst-leads, end-set}
+use Rattle.primitives.specs.Ends.{linkFwd, linkBack, linkEnd, binBy, Leads, linkFwd-some, linkBack-some, linkEnd-some, binBy-same, binBy-other, not-none, fwd-words, back-words, hd-leads, lst-leads, end-set}
 
 -- ---- a part whose end is none has no chunk
 pub lst-nil : (w xs : List ℕ) → Chunks w xs → lst none64 xs ≡ none64 → xs ≡ []
@@ -172,11 +172,29 @@ module _ (h : Heap) (w r : List ℕ) (o : Ok h w r) where
       one : j ≡ unsorted → binBy v c z ≡ j
       one e = binBy-same v c z (f e) ∙ sym e
 
-  pub unlink-gave : (j c z n p at f g : ℕ) (v₁ v q₁ q : List ℕ) → Home h j c z → n ≡ getD w (fwdWord c) 0 → p ≡ getD w (backWord c) 0
-      → at ≡ binFirst unsorted → (p ≡ none64 → f ≡ binBy (getD r at 0) c z) → (p ≡ none64 → g ≡ f) → ((p ≡ none64 → ⊥) → n ≡ none64 → g ≡ binBy (getD r (at + 1) 0) c z)
-      → v₁ ≡ linkFwd w p n → q₁ ≡ linkEnd r (binFirst f) p n → v ≡ linkBack v₁ n p → q ≡ linkEnd q₁ (binLast g) n p
+  -- where c is the first of its bin, and where it is the last, unsorted's own first or last tells which bin that is
+  pub first-home : (j c z p at : ℕ) → Home h j c z → p ≡ getD w (backWord c) 0 → p ≡ none64 → at ≡ binFirst unsorted → binBy (getD r at 0) c z ≡ j
+  first-home j c z p at m ep e ea =
+      let a = around j c (m .here) in
+      let ys = post c (bin h j) in
+      let nil : pre c (bin h j) ≡ [] = lst-nil w (pre c (bin h j)) (a .low) (sym (a .prev) ∙ sym ep ∙ e) in
+      let own : hd none32 (bin h j) ≡ c = ap (hd none32) (cut c (bin h j) (m .here)) ∙ ap (λ (l : List ℕ). hd none32 (l ++ c ∷ ys)) nil in
+      let first : getD r at 0 ≡ hd none32 (bin h unsorted) = ap (λ (i : ℕ). getD r i 0) ea ∙ ok-first unsorted (omega arith) (omega arith) in
+      bin-by j c z (getD r at 0) m (λ u. first ∙ ap (λ (i : ℕ). hd none32 (bin h i)) (sym u) ∙ own) (λ u. hd-has (bin h unsorted) c (omega (arith, a .here .small)) (sym first ∙ u))
+
+  pub last-home : (j c z n at : ℕ) → Home h j c z → n ≡ getD w (fwdWord c) 0 → n ≡ none64 → at ≡ binLast unsorted → binBy (getD r at 0) c z ≡ j
+  last-home j c z n at m en e ea =
+      let a = around j c (m .here) in
+      let xs = pre c (bin h j) in
+      let nil : post c (bin h j) ≡ [] = hd-nil w (post c (bin h j)) (a .high) (sym (a .next) ∙ sym en ∙ e) in
+      let own : lst none32 (bin h j) ≡ c = ap (lst none32) (cut c (bin h j) (m .here)) ∙ lst-append none32 xs (c ∷ post c (bin h j)) ∙ ap (lst c) nil in
+      let last : getD r at 0 ≡ lst none32 (bin h unsorted) = ap (λ (i : ℕ). getD r i 0) ea ∙ ok-last unsorted (omega arith) (omega arith) in
+      bin-by j c z (getD r at 0) m (λ u. last ∙ ap (λ (i : ℕ). lst none32 (bin h i)) (sym u) ∙ own) (λ u. lst-has (bin h unsorted) c (omega (arith, a .here .small)) (sym last ∙ u))
+
+  pub unlink-gave : (j c n p : ℕ) (v₁ v q₁ q : List ℕ) → InBin h j c → n ≡ getD w (fwdWord c) 0 → p ≡ getD w (backWord c) 0
+      → v₁ ≡ linkFwd w p n → q₁ ≡ linkEnd r (binFirst j) p n → v ≡ linkBack v₁ n p → q ≡ linkEnd q₁ (binLast j) n p
       → Gave (Unit {0}) (unlink j c h) tt w v q
-  unlink-gave j c z n p at f g v₁ v q₁ q m en ep ea ef efg eg e₁ f₁ e f₂ =
+  unlink-gave j c n p v₁ v q₁ q m en ep e₁ f₁ e f₂ =
       let a = around j c (m .here) in
       let xs = pre c (bin h j) in
       let ys = post c (bin h j) in
@@ -184,39 +202,33 @@ module _ (h : Heap) (w r : List ℕ) (o : Ok h w r) where
       let prev : p ≡ lst none64 xs = ep ∙ a .prev in
       let high = bin-below j c (m .here) in
       let es : bin h j ≡ xs ++ c ∷ ys = cut c (bin h j) (m .here) in
-      let sc : c < none32 = omega (arith, a .here .small) in
-      let first : getD r at 0 ≡ hd none32 (bin h unsorted) = ap (λ (i : ℕ). getD r i 0) ea ∙ ok-first unsorted (omega arith) (omega arith) in
-      let last : getD r (at + 1) 0 ≡ lst none32 (bin h unsorted) = ap (λ (i : ℕ). getD r (i + 1) 0) ea ∙ ok-last unsorted (omega arith) (omega arith) in
-      let by-first : p ≡ none64 → f ≡ j = λ y.
-      let nil : xs ≡ [] = lst-nil w xs (a .low) (sym prev ∙ y) in
-      let own : hd none32 (bin h j) ≡ c = ap (hd none32) es ∙ ap (λ (l : List ℕ). hd none32 (l ++ c ∷ ys)) nil in
-      ef y ∙ bin-by j c z (getD r at 0) m (λ u. first ∙ ap (λ (i : ℕ). hd none32 (bin h i)) (sym u) ∙ own) (λ u. hd-has (bin h unsorted) c sc (sym first ∙ u)) in
-      let by-last : n ≡ none64 → g ≡ j = λ y.
-      let nil : ys ≡ [] = hd-nil w ys (a .high) (sym next ∙ y) in
-      let own : lst none32 (bin h j) ≡ c = ap (lst none32) es ∙ lst-append none32 xs (c ∷ ys) ∙ ap (lst c) nil in
-      ⊎-elim (λ u. efg u ∙ by-first u)
-      (λ ne. eg ne y ∙ bin-by j c z (getD r (at + 1) 0) m (λ u. last ∙ ap (λ (i : ℕ). lst none32 (bin h i)) (sym u) ∙ own) (λ u. lst-has (bin h unsorted) c sc (sym last ∙ u)))
-      (eq? p none64) in
       record {
         says = refl;
         bytes = e ∙ rw (e₁, prev, next)
             (ap (λ (z : List ℕ). linkBack z (hd none64 ys) (lst none64 xs)) (fwd-words w w xs (hd none64 ys) (a .low)) ∙ back-words w (apply (fwdTo xs (hd none64 ys)) w) ys (lst none64 xs) (a .high)
             ∙ sym (apply-append (fwdTo xs (hd none64 ys)) (backTo ys (lst none64 xs)) w));
-        rec = relinked j (binFirst f) (binLast g) p n n p (xs ++ ys) q₁ q (m .low) high
+        rec = relinked j (binFirst j) (binLast j) p n n p (xs ++ ys) q₁ q (m .low) high
             (λ y.
-            let nil : xs ≡ [] = lst-nil w xs (a .low) (sym prev ∙ y) in (
-              ap binFirst (by-first y),
-              ap down next ∙ down-hd w ys (a .high) ∙ ap (λ (l : List ℕ). hd none32 (l ++ ys)) (sym nil),
-            ))
+            let nil : xs ≡ [] = lst-nil w xs (a .low) (sym prev ∙ y) in
+            (refl, ap down next ∙ down-hd w ys (a .high) ∙ ap (λ (l : List ℕ). hd none32 (l ++ ys)) (sym nil)))
             (λ y. ap (hd none32) es ∙ hd-kept xs (c ∷ ys) ys (λ u. y (prev ∙ u)))
             (λ y.
-            let nil : ys ≡ [] = hd-nil w ys (a .high) (sym next ∙ y) in (
-              ap binLast (by-last y),
-              ap down prev ∙ down-lst w xs (a .low) ∙ sym (ap (λ (l : List ℕ). lst none32 (xs ++ l)) nil ∙ ap (lst none32) (append-nil xs)),
-            ))
+            let nil : ys ≡ [] = hd-nil w ys (a .high) (sym next ∙ y) in
+            (refl, ap down prev ∙ down-lst w xs (a .low) ∙ sym (ap (λ (l : List ℕ). lst none32 (xs ++ l)) nil ∙ ap (lst none32) (append-nil xs))))
             (λ y. ap (lst none32) es ∙ lst-kept xs c ys (λ u. y (next ∙ u)))
             f₁ f₂;
       }
+
+  -- the bin is known by another number, which is the same
+  pub unlink-known-gave : (j i c z : ℕ) {v q : List ℕ} → Home h j c z → i ≡ j → Does (Unit {0}) (λ h. InBin h i c) (unlink i c) w r tt v q → Gave (Unit {0}) (unlink j c h) tt w v q
+  unlink-known-gave j i c z {v} {q} m e d =
+      subst (λ (k : ℕ). Does (Unit {0}) (λ h. InBin h k c) (unlink k c) w r tt v q) e d .does h o (home-in h j c z m)
+
+  -- between two chunks the record stays as it is
+  pub unlink-inner-gave : (j c n p : ℕ) (v₁ v : List ℕ) → InBin h j c → n ≡ getD w (fwdWord c) 0 → p ≡ getD w (backWord c) 0 → (p ≡ none64 → ⊥) → (n ≡ none64 → ⊥)
+      → v₁ ≡ put (fwd p n) w → v ≡ put (back n p) v₁ → Gave (Unit {0}) (unlink j c h) tt w v r
+  unlink-inner-gave j c n p v₁ v m en ep sp sn e₁ e =
+      unlink-gave j c n p v₁ v r r m en ep (e₁ ∙ sym (linkFwd-some w p n sp)) (sym (linkEnd-some r (binFirst j) p n sp)) (e ∙ sym (linkBack-some v₁ n p sn)) (sym (linkEnd-some r (binLast j) n p sn))
 
 -- ---- what the calls ask, over the arena's bytes
 pub gap-ready : (h : Heap) (a r : List ℕ) (j : ℕ) (xs ys : List ℕ) (p n : ℕ) → Ok h (arenaWords a) r → Gap h j xs ys p n → Ready (length a) p n

@@ -1,3 +1,4 @@
+pub mod Room
 pub mod Follow
 pub mod FollowLaws
 pub mod Reach
@@ -8,3 +9,4 @@ pub mod Stacks
 pub mod Heads
 pub mod Bins
 pub mod Sizes
+pub mod CacheList

@@ -14,7 +14,12 @@ pub record Gap (h : Heap) (j : ℕ) (xs ys : List ℕ) (p n : ℕ) : Type 0 wher
   pub left : p ≡ lst none64 xs
   pub right : n ≡ hd none64 ys
 
--- bin j has c, and is unsorted or the bin of size z: what the size tells of a binned chunk
+-- bin j has c
+pub record InBin (h : Heap) (j c : ℕ) : Type 0 where
+  pub here : 1 ≤ cnt c (bin h j)
+  pub low : 1 ≤ j
+
+-- and is unsorted or the bin of size z: what the size tells of a binned chunk
 pub record Home (h : Heap) (j c z : ℕ) : Type 0 where
   pub here : 1 ≤ cnt c (bin h j)
   pub low : 1 ≤ j
@@ -29,3 +34,6 @@ pub record Between (h : Heap) (j p n : ℕ) : Type 0 where
 pub record Binned (h : Heap) (c z : ℕ) : Type 0 where
   pub bin-no : ℕ
   pub home : Home h bin-no c z
+
+abbrev pub home-in : (h : Heap) (j c z : ℕ) → Home h j c z → InBin h j c
+home-in h j c z m = record { here = m .here; low = m .low }

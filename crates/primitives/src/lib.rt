@@ -1,4 +1,5 @@
 // The machine's primitives on lists and flags as code, on the arena's bytes and the record's words.
+use chunk_fields::Link;
 use chunk_fields::back_at;
 use chunk_fields::fwd_at;
 use chunk_fields::link_of;
@@ -10,14 +11,17 @@ use chunk_fields::size_at;
 use chunk_fields::word_of;
 use sizes::CACHE_COUNTS;
 use sizes::CACHE_HEADS;
+use sizes::CACHE_ROOM;
+use sizes::Chunk;
 use sizes::FAST_HEADS;
+use sizes::MOST_CACHED;
 use sizes::NONE64;
 use sizes::UNSORTED;
 ghost use mathlib.Core.Path.{_≡_};
 ghost use mathlib.Core.Bool.{true};
 ghost use mathlib.Core.List.{List};
 ghost use Prim.Native.Nat.{ℕ, _+_, _%_, _≤_, _<_, _^_};
-ghost use lib.ListN.{length, set};
+ghost use lib.ListN.{length, getD, set};
 ghost use Rattle.le.specs.Arena.{arenaWords};
 ghost use Rattle.machine.specs.Lists.{some?};
 ghost use Rattle.machine.specs.Heap.{Heap, stack, fastAt};
@@ -25,32 +29,44 @@ ghost use Rattle.machine.specs.Writes.{size, note, put};
 ghost use Rattle.machine.specs.Primitives.{push, pop, linkIn, putFirst, unlink};
 ghost use Rattle.machine.specs.View.{sizeAt};
 ghost use Rattle.machine.specs.declared.{Got.Got, Got.the-variants.At};
-ghost use Rattle.sizes.specs.Limits.{none64};
-ghost use Rattle.sizes.specs.Layout.{binFirst, binLast};
+ghost use Rattle.sizes.specs.Sizes.{cacheOf};
+ghost use Rattle.sizes.specs.Layout.{cacheCount, binFirst, binLast};
 ghost use Rattle.sound.specs.Relation.{Loose};
 ghost use Rattle.chunk_fields.specs.Links.{down};
 ghost use Rattle.primitives.specs.Follow.{Ok, Has, Gave, Does};
-ghost use Rattle.primitives.specs.Places.{Gap, Home, Between, Binned};
+ghost use Rattle.primitives.specs.Room.{cacheTakes};
+ghost use Rattle.primitives.specs.Places.{Gap, InBin, Home, Between, Binned};
 ghost use Rattle.primitives.specs.Ends.{Leads, linkFwd, linkBack, linkEnd, binBy};
 
 // c goes on cache list k, which has room.
-pub fn push_cache(a: &mut [u8], r: &mut [u32], k: usize, c: u64)
-    requires { ⌜ (k < 64) × Has (λ h. Loose h c × (length (stack h k) < 7)) (arenaWords (now a)) (now r) ⌝ }
-    ensures { λ _. ⌜ Does (Unit {0}) (λ h. Loose h c × (length (stack h k) < 7)) (push k c) (arenaWords (now (a .entry))) (now (r .entry)) tt (arenaWords (now (a .exit))) (now (r .exit)) ⌝ }
+pub fn push_cache(a: &mut [u8], r: &mut [u32], k: usize, c: Chunk)
+    requires { ⌜ (k < 64) × Has (λ h. Loose h (c .0) × (length (stack h k) < 7)) (arenaWords (now a)) (now r) ⌝ }
+    ensures { λ _. ⌜ Does (Unit {0}) (λ h. Loose h (c .0) × (length (stack h k) < 7)) (push k (c .0)) (arenaWords (now (a .entry))) (now (r .entry)) tt (arenaWords (now (a .exit))) (now (r .exit)) ⌝ }
 {
     let x = r[CACHE_HEADS + k];
     let n = r[CACHE_COUNTS + k];
     set_fwd(a, c, link_of(x));
-    r[CACHE_HEADS + k] = c as u32;
+    r[CACHE_HEADS + k] = c.0 as u32;
     r[CACHE_COUNTS + k] = n + 1;
 }
 
-// The head of cache list k, which has one, is taken.
-pub fn take_cache(a: &[u8], r: &mut [u32], k: usize) -> u64
-    requires { ⌜ (k < 64) × Has (λ h. some? (stack h k) ≡ true) (arenaWords (now a)) (now r) ⌝ }
-    ensures { λ c. ⌜ Does Got (λ h. some? (stack h k) ≡ true) (pop k) (arenaWords (now (a .entry))) (now (r .entry)) (At c) (arenaWords (now (a .entry))) (now (r .exit)) ⌝ }
+// Whether the cache takes one more chunk of size z: up to 1,040, and its list has fewer than 7.
+pub fn cache_takes(r: &[u32], z: u64) -> bool
+    requires { ⌜ (32 ≤ z) × (length (now r) ≡ 393) ⌝ }
+    ensures { λ t. ⌜ t ≡ cacheTakes (getD (now (r .entry)) (cacheCount (cacheOf z)) 0) z ⌝ }
 {
-    let c = r[CACHE_HEADS + k] as u64;
+    if MOST_CACHED < z {
+        return false;
+    }
+    r[CACHE_COUNTS + sizes::cache_list(z)] < CACHE_ROOM
+}
+
+// The head of cache list k, which has one, is taken.
+pub fn take_cache(a: &[u8], r: &mut [u32], k: usize) -> Chunk
+    requires { ⌜ (k < 64) × Has (λ h. some? (stack h k) ≡ true) (arenaWords (now a)) (now r) ⌝ }
+    ensures { λ c. ⌜ Does Got (λ h. some? (stack h k) ≡ true) (pop k) (arenaWords (now (a .entry))) (now (r .entry)) (At (c .0)) (arenaWords (now (a .entry))) (now (r .exit)) ⌝ }
+{
+    let c = Chunk(r[CACHE_HEADS + k] as u64);
     let n = r[CACHE_COUNTS + k];
     r[CACHE_HEADS + k] = word_of(fwd_at(a, c));
     r[CACHE_COUNTS + k] = n - 1;
@@ -58,127 +74,132 @@ pub fn take_cache(a: &[u8], r: &mut [u32], k: usize) -> u64
 }
 
 // The same for fast list k.
-pub fn push_fast(a: &mut [u8], r: &mut [u32], k: usize, c: u64)
-    requires { ⌜ (k < 10) × Has (λ h. Loose h c) (arenaWords (now a)) (now r) ⌝ }
-    ensures { λ _. ⌜ Does (Unit {0}) (λ h. Loose h c) (push (fastAt k) c) (arenaWords (now (a .entry))) (now (r .entry)) tt (arenaWords (now (a .exit))) (now (r .exit)) ⌝ }
+pub fn push_fast(a: &mut [u8], r: &mut [u32], k: usize, c: Chunk)
+    requires { ⌜ (k < 10) × Has (λ h. Loose h (c .0)) (arenaWords (now a)) (now r) ⌝ }
+    ensures { λ _. ⌜ Does (Unit {0}) (λ h. Loose h (c .0)) (push (fastAt k) (c .0)) (arenaWords (now (a .entry))) (now (r .entry)) tt (arenaWords (now (a .exit))) (now (r .exit)) ⌝ }
 {
     let x = r[FAST_HEADS + k];
     set_fwd(a, c, link_of(x));
-    r[FAST_HEADS + k] = c as u32;
+    r[FAST_HEADS + k] = c.0 as u32;
 }
 
-pub fn take_fast(a: &[u8], r: &mut [u32], k: usize) -> u64
+pub fn take_fast(a: &[u8], r: &mut [u32], k: usize) -> Chunk
     requires { ⌜ (k < 10) × Has (λ h. some? (stack h (fastAt k)) ≡ true) (arenaWords (now a)) (now r) ⌝ }
-    ensures { λ c. ⌜ Does Got (λ h. some? (stack h (fastAt k)) ≡ true) (pop (fastAt k)) (arenaWords (now (a .entry))) (now (r .entry)) (At c) (arenaWords (now (a .entry))) (now (r .exit)) ⌝ }
+    ensures { λ c. ⌜ Does Got (λ h. some? (stack h (fastAt k)) ≡ true) (pop (fastAt k)) (arenaWords (now (a .entry))) (now (r .entry)) (At (c .0)) (arenaWords (now (a .entry))) (now (r .exit)) ⌝ }
 {
-    let c = r[FAST_HEADS + k] as u64;
+    let c = Chunk(r[FAST_HEADS + k] as u64);
     r[FAST_HEADS + k] = word_of(fwd_at(a, c));
     c
 }
 
 // The forward link of p, or the first of bin j where p is none, becomes x.
-fn link_fwd(a: &mut [u8], r: &mut [u32], j: usize, p: u64, x: u64)
-    requires { ⌜ (j ≤ 126) × (length (now r) ≡ 393) × Leads (length (now a)) p × (down x < 2 ^ 32) ⌝ }
-    ensures { λ _. ⌜ (arenaWords (now (a .exit)) ≡ linkFwd (arenaWords (now (a .entry))) p x) × (now (r .exit) ≡ linkEnd (now (r .entry)) (binFirst j) p x) ⌝ }
+fn link_fwd(a: &mut [u8], r: &mut [u32], j: usize, p: Link, x: Link)
+    requires { ⌜ (j ≤ 126) × (length (now r) ≡ 393) × Leads (length (now a)) (p .0) × (down (x .0) < 2 ^ 32) ⌝ }
+    ensures { λ _. ⌜ (arenaWords (now (a .exit)) ≡ linkFwd (arenaWords (now (a .entry))) (p .0) (x .0)) × (now (r .exit) ≡ linkEnd (now (r .entry)) (binFirst j) (p .0) (x .0)) ⌝ }
 {
-    if p == NONE64 {
+    if p.0 == NONE64 {
         let at = sizes::bin_first(j);
         r[at] = word_of(x);
         return;
     }
-    set_fwd(a, p, x);
+    set_fwd(a, Chunk(p.0), x);
 }
 
 // The back link of n, or the last of bin j where n is none, becomes x.
-fn link_back(a: &mut [u8], r: &mut [u32], j: usize, n: u64, x: u64)
-    requires { ⌜ (j ≤ 126) × (length (now r) ≡ 393) × Leads (length (now a)) n × (down x < 2 ^ 32) ⌝ }
-    ensures { λ _. ⌜ (arenaWords (now (a .exit)) ≡ linkBack (arenaWords (now (a .entry))) n x) × (now (r .exit) ≡ linkEnd (now (r .entry)) (binLast j) n x) ⌝ }
+fn link_back(a: &mut [u8], r: &mut [u32], j: usize, n: Link, x: Link)
+    requires { ⌜ (j ≤ 126) × (length (now r) ≡ 393) × Leads (length (now a)) (n .0) × (down (x .0) < 2 ^ 32) ⌝ }
+    ensures { λ _. ⌜ (arenaWords (now (a .exit)) ≡ linkBack (arenaWords (now (a .entry))) (n .0) (x .0)) × (now (r .exit) ≡ linkEnd (now (r .entry)) (binLast j) (n .0) (x .0)) ⌝ }
 {
-    if n == NONE64 {
+    if n.0 == NONE64 {
         let at = sizes::bin_last(j);
         r[at] = word_of(x);
         return;
     }
-    set_back(a, n, x);
+    set_back(a, Chunk(n.0), x);
 }
 
 // c goes into bin j between p and n.
-pub fn link_in(a: &mut [u8], r: &mut [u32], j: usize, c: u64, p: u64, n: u64)
-    requires { ⌜ (1 ≤ j) × (j ≤ 126) × Has (λ h. Loose h c × Between h j p n) (arenaWords (now a)) (now r) ⌝ }
-    ensures { λ _. ⌜ ((h : Heap) (xs ys : List ℕ) → Ok h (arenaWords (now (a .entry))) (now (r .entry)) → Loose h c → Gap h j xs ys p n
-        → Gave (Unit {0}) (linkIn j c xs ys h) tt (arenaWords (now (a .entry))) (arenaWords (now (a .exit))) (now (r .exit))) ⌝ }
+pub fn link_in(a: &mut [u8], r: &mut [u32], j: usize, c: Chunk, p: Link, n: Link)
+    requires { ⌜ (1 ≤ j) × (j ≤ 126) × Has (λ h. Loose h (c .0) × Between h j (p .0) (n .0)) (arenaWords (now a)) (now r) ⌝ }
+    ensures { λ _. ⌜ ((h : Heap) (xs ys : List ℕ) → Ok h (arenaWords (now (a .entry))) (now (r .entry)) → Loose h (c .0) → Gap h j xs ys (p .0) (n .0)
+        → Gave (Unit {0}) (linkIn j (c .0) xs ys h) tt (arenaWords (now (a .entry))) (arenaWords (now (a .exit))) (now (r .exit))) ⌝ }
 {
     set_fwd(a, c, n);
     set_back(a, c, p);
-    link_fwd(a, r, j, p, c);
-    link_back(a, r, j, n, c);
+    link_fwd(a, r, j, p, Link(c.0));
+    link_back(a, r, j, n, Link(c.0));
 }
 
 // c goes first in bin j.
-pub fn put_first(a: &mut [u8], r: &mut [u32], j: usize, c: u64)
-    requires { ⌜ (1 ≤ j) × (j ≤ 126) × Has (λ h. Loose h c) (arenaWords (now a)) (now r) ⌝ }
-    ensures { λ _. ⌜ Does (Unit {0}) (λ h. Loose h c) (putFirst j c) (arenaWords (now (a .entry))) (now (r .entry)) tt (arenaWords (now (a .exit))) (now (r .exit)) ⌝ }
+pub fn put_first(a: &mut [u8], r: &mut [u32], j: usize, c: Chunk)
+    requires { ⌜ (1 ≤ j) × (j ≤ 126) × Has (λ h. Loose h (c .0)) (arenaWords (now a)) (now r) ⌝ }
+    ensures { λ _. ⌜ Does (Unit {0}) (λ h. Loose h (c .0)) (putFirst j (c .0)) (arenaWords (now (a .entry))) (now (r .entry)) tt (arenaWords (now (a .exit))) (now (r .exit)) ⌝ }
 {
     let at = sizes::bin_first(j);
     let n = link_of(r[at]);
-    link_in(a, r, j, c, NONE64, n);
+    link_in(a, r, j, c, Link(NONE64), n);
 }
 
-// The bin of a chunk c of size z that is the first of its list, or the last, v being unsorted's: unsorted if c is v, else its size's. Where the neighbour q at
-// that end is a chunk, nothing asks for the bin, and its table is not looked at.
-fn bin_by(q: u64, v: u32, c: u64, z: u64) -> usize
-    ensures { λ r. ⌜ (q ≡ none64 → r ≡ binBy v c z) × (r ≤ 126) ⌝ }
+// c leaves bin j, which has it.
+pub fn unlink(a: &mut [u8], r: &mut [u32], j: usize, c: Chunk)
+    requires { ⌜ Has (λ h. InBin h j (c .0)) (arenaWords (now a)) (now r) ⌝ }
+    ensures { λ _. ⌜ Does (Unit {0}) (λ h. InBin h j (c .0)) (unlink j (c .0)) (arenaWords (now (a .entry))) (now (r .entry)) tt (arenaWords (now (a .exit))) (now (r .exit)) ⌝ }
 {
-    if q != NONE64 {
-        return UNSORTED;
-    }
-    if v as u64 == c {
+    let n = fwd_at(a, c);
+    let p = back_at(a, c);
+    link_fwd(a, r, j, p, n);
+    link_back(a, r, j, n, p);
+}
+
+// The bin of a chunk c of size z that is the first of its list, or the last, v being unsorted's: unsorted if c is v, else its size's.
+fn bin_of_end(v: u32, c: Chunk, z: u64) -> usize
+    ensures { λ j. ⌜ j ≡ binBy v (c .0) z ⌝ }
+{
+    if v as u64 == c.0 {
         return UNSORTED;
     }
     sizes::bin_of(z)
 }
 
-// The same at the list's end: a chunk that is the first, of bin j, has the same bin as the last.
-fn end_by(p: u64, j: usize, n: u64, v: u32, c: u64, z: u64) -> usize
-    requires { ⌜ j ≤ 126 ⌝ }
-    ensures { λ r. ⌜ (p ≡ none64 → r ≡ j) × ((p ≡ none64 → ⊥) → n ≡ none64 → r ≡ binBy v c z) × (r ≤ 126) ⌝ }
+// c, a binned chunk of size z, leaves its bin. Which one that is matters only where c is the first or the last of it.
+pub fn unlink_wherever(a: &mut [u8], r: &mut [u32], c: Chunk, z: u64)
+    requires { ⌜ Has (λ h. Binned h (c .0) z) (arenaWords (now a)) (now r) ⌝ }
+    ensures { λ _. ⌜ ((h : Heap) (j : ℕ) → Ok h (arenaWords (now (a .entry))) (now (r .entry)) → Home h j (c .0) z
+        → Gave (Unit {0}) (unlink j (c .0) h) tt (arenaWords (now (a .entry))) (arenaWords (now (a .exit))) (now (r .exit))) ⌝ }
 {
-    if p == NONE64 {
-        return j;
-    }
-    bin_by(n, v, c, z)
-}
-
-// c, a binned chunk of size z, leaves its bin.
-pub fn unlink(a: &mut [u8], r: &mut [u32], c: u64, z: u64)
-    requires { ⌜ Has (λ h. Binned h c z) (arenaWords (now a)) (now r) ⌝ }
-    ensures { λ _. ⌜ ((h : Heap) (j : ℕ) → Ok h (arenaWords (now (a .entry))) (now (r .entry)) → Home h j c z
-        → Gave (Unit {0}) (unlink j c h) tt (arenaWords (now (a .entry))) (arenaWords (now (a .exit))) (now (r .exit))) ⌝ }
-{
-    let n = fwd_at(a, c);
     let p = back_at(a, c);
-    let at = sizes::bin_first(UNSORTED);
-    let jf = bin_by(p, r[at], c, z);
-    let jl = end_by(p, jf, n, r[at + 1], c, z);
-    link_fwd(a, r, jf, p, n);
-    link_back(a, r, jl, n, p);
+    if p.0 == NONE64 {
+        let at = sizes::bin_first(UNSORTED);
+        let j = bin_of_end(r[at], c, z);
+        unlink(a, r, j, c);
+        return;
+    }
+    let n = fwd_at(a, c);
+    if n.0 == NONE64 {
+        let at = sizes::bin_last(UNSORTED);
+        let j = bin_of_end(r[at], c, z);
+        unlink(a, r, j, c);
+        return;
+    }
+    set_fwd(a, Chunk(p.0), n);
+    set_back(a, Chunk(n.0), p);
 }
 
 // The P of the chunk at n is set.
-pub fn set_p(a: &mut [u8], n: u64)
-    requires { ⌜ (n % 16 ≡ 0) × (n + 32 ≤ length (now a)) ⌝ }
-    ensures { λ _. ⌜ arenaWords (now (a .exit)) ≡ put (size n (sizeAt (arenaWords (now (a .entry))) n) 1) (arenaWords (now (a .entry))) ⌝ }
+pub fn set_p(a: &mut [u8], n: Chunk)
+    requires { ⌜ (n .0 % 16 ≡ 0) × (n .0 + 32 ≤ length (now a)) ⌝ }
+    ensures { λ _. ⌜ arenaWords (now (a .exit)) ≡ put (size (n .0) (sizeAt (arenaWords (now (a .entry))) (n .0)) 1) (arenaWords (now (a .entry))) ⌝ }
 {
     let z = size_at(a, n);
-    set_size(a, n, z, 1);
+    set_size(a, n, z, true);
 }
 
 // The P of the chunk at n is cleared, and the size s of the chunk before it is noted.
-pub fn clear_p(a: &mut [u8], n: u64, s: u64)
-    requires { ⌜ (n % 16 ≡ 0) × (n + 32 ≤ length (now a)) ⌝ }
-    ensures { λ _. ⌜ arenaWords (now (a .exit)) ≡ put (note n s) (put (size n (sizeAt (arenaWords (now (a .entry))) n) 0) (arenaWords (now (a .entry)))) ⌝ }
+pub fn clear_p(a: &mut [u8], n: Chunk, s: u64)
+    requires { ⌜ (n .0 % 16 ≡ 0) × (n .0 + 32 ≤ length (now a)) ⌝ }
+    ensures { λ _. ⌜ arenaWords (now (a .exit)) ≡ put (note (n .0) s) (put (size (n .0) (sizeAt (arenaWords (now (a .entry))) (n .0)) 0) (arenaWords (now (a .entry)))) ⌝ }
 {
     let z = size_at(a, n);
-    set_size(a, n, z, 0);
+    set_size(a, n, z, false);
     set_note(a, n, s);
 }

@@ -7,12 +7,20 @@ use lib.ListN.{length, getD, set}
 use Rattle.le.specs.Number.{put, bytes}
 use Rattle.le.specs.NumberLaws.{length-put}
 use Rattle.le.specs.WordsLaws.{words-put, bytes-words}
+use Rattle.sizes.specs.Limits.{cacheLists}
 use Rattle.sizes.specs.Layout.{cacheHead, cacheCount}
 use Rattle.machine.specs.Calls.{wordsOf}
+use Rattle.record_words.specs.declared.Changed.{Changed}
+use Rattle.record_words.specs.declared.Changed.the-variants.{CacheList, Any}
 
 -- the words p are the words q but for head and count of cache list k
 abbrev pub CacheOnly : ℕ → List ℕ → List ℕ → Type 0
 CacheOnly k q p = p ≡ set (set q (cacheHead k) (getD p (cacheHead k) 0)) (cacheCount k) (getD p (cacheCount k) 0)
+
+-- what a step changed in the words q, which are p now
+abbrev pub Changes : Changed → List ℕ → List ℕ → Type 0
+Changes (CacheList k) q p = (k < cacheLists) × CacheOnly k q p
+Changes Any q p = Unit {0}
 
 -- the record's bytes when these two words were written: r before, v after
 pub cache-only-bytes : (k : ℕ) (r p v : List ℕ) → length r ≡ 1572 → k < 64 → CacheOnly k (wordsOf r) p

@@ -4,7 +4,7 @@ ghost use Prim.Native.Nat.{_<_};
 ghost use lib.ListN.{length};
 ghost use Rattle.le.specs.Number.{words, bytes};
 ghost use Rattle.machine.specs.Calls.{wordsOf};
-ghost use Rattle.record_words.specs.CacheOnly.{CacheOnly};
+ghost use Rattle.record_words.specs.CacheOnly.{CacheOnly, Changes};
 use sizes::CACHE_COUNTS;
 use sizes::CACHE_HEADS;
 use sizes::RECORD_WORDS;
@@ -31,8 +31,14 @@ pub fn write_words(b: &mut [u8], r: &[u32])
     }
 }
 
+// Which of the record's words a step changed: those of one cache list, or any.
+pub enum Changed {
+    CacheList(usize),
+    Any,
+}
+
 // The two words of cache list k go back: nothing else of the record changed.
-pub fn put_cache(control: &mut [u8], r: &[u32], k: usize)
+fn put_cache(control: &mut [u8], r: &[u32], k: usize)
     requires { ⌜ (length (now control) ≡ 1572) × (length (now r) ≡ 393) × (k < 64) × CacheOnly k (wordsOf (now control)) (now r) ⌝ }
     ensures { λ _. ⌜ now (control .exit) ≡ bytes 4 (now (r .entry)) ⌝ }
 {
@@ -40,4 +46,19 @@ pub fn put_cache(control: &mut [u8], r: &[u32], k: usize)
     let count = CACHE_COUNTS + k;
     le::write4(control, 4 * head, r[head]);
     le::write4(control, 4 * count, r[count]);
+}
+
+// The words that a step changed go back.
+pub fn write_changed(control: &mut [u8], r: &[u32], changed: Changed)
+    requires { ⌜ (length (now control) ≡ 1572) × (length (now r) ≡ 393) × Changes changed (wordsOf (now control)) (now r) ⌝ }
+    ensures { λ _. ⌜ now (control .exit) ≡ bytes 4 (now (r .entry)) ⌝ }
+{
+    match changed {
+        Changed::CacheList(k) => {
+            put_cache(control, r, k);
+        }
+        Changed::Any => {
+            write_words(control, r);
+        }
+    }
 }

@@ -1,2 +1,2 @@
-pub mod Offered
+pub mod Offers
 pub mod Release

@@ -1,24 +1,30 @@
 -- Release as the code does it follows the machine: one lemma for each way. Assumes nothing.
-use mathlib.Core.Path.{_≡_, refl, sym, ap, _∙_}
-use mathlib.Core.List.{List}
+use mathlib.Core.Path.{_≡_, refl, sym, ap, _∙_, subst}
+use mathlib.Core.Bool.{Bool, true, false}
+use mathlib.Core.List.{List, _∷_}
 use Prim.Native.Nat.{ℕ, _≤_, _<_}
 use native.Mathlib.Omega.{arith}
 use lib.ListN.{length, getD}
-use borrow.Author.Tests.{lt-ltb, le-ltb, lt-leb, le-leb}
-use Rattle.sizes.specs.Limits.{mostCached, cacheRoom, mostFast}
+use borrow.Author.Tests.{lt-leb, le-leb}
+use Rattle.sizes.specs.Limits.{mostFast}
 use Rattle.sizes.specs.Layout.{cacheCount}
 use Rattle.sizes.specs.Sizes.{cacheOf, fastOf}
 use Rattle.machine.specs.Heap.{Heap, stack, cache, fastAt, sizeOf}
-use Rattle.machine.specs.Writes.{heapOf, giving}
+use Rattle.machine.specs.Writes.{giving}
 use Rattle.machine.specs.Primitives.{push, pushCache}
 use Rattle.machine.specs.Release.{join, releasePast, release}
 use Rattle.machine.specs.View.{sizeAt}
 use Rattle.sound.specs.Relation.{Loose, Good}
-use Rattle.primitives.specs.Follow.{Ok, Gave, Does}
+use Rattle.record_words.specs.CacheOnly.{CacheOnly, Changes}
+use Rattle.record_words.specs.declared.Changed.the-variants.{CacheList}
+use Rattle.primitives.specs.Follow.{Ok, Has, Gave, Does}
 use Rattle.primitives.specs.FollowLaws.{gave-by, gave-giving}
-use Rattle.primitives.specs.Stacks.{ok-cacheCount}
+use Rattle.primitives.specs.Room.{cacheTakes}
+use Rattle.primitives.specs.CacheList.{cache-only, takes-is, takes-room}
 use Rattle.release_join.specs.Reads.{loose-reads}
-use Rattle.release.specs.Offered.{Offered}
+use Rattle.release.specs.Offers.{OnCache, Passed, Comes}
+use Rattle.release.specs.declared.Offered.{Offered}
+use Rattle.release.specs.declared.Offered.the-variants.{On, NoRoom}
 
 -- ---- the machine's steps by their tests, at a chunk of size z
 past-fast : (c z : ℕ) (h : Heap) → sizeOf h c ≡ z → z ≤ 128 → releasePast c h ≡ giving 0 (push (fastAt (fastOf z)) c h)
@@ -29,22 +35,16 @@ past-join : (c z : ℕ) (h : Heap) → sizeOf h c ≡ z → 128 < z → releaseP
 unfolding releasePast
 past-join c z h e l = rw (lt-leb (sizeOf h c) mostFast (omega arith), releasePast)
 
-release-cached : (c z : ℕ) (h : Heap) → sizeOf h c ≡ z → z ≤ 1040 → length (stack h (cacheOf z)) < 7 → release c h ≡ giving 0 (pushCache (cacheOf z) c h)
+-- ---- release by its test
+release-cached : (c z : ℕ) (h : Heap) → sizeOf h c ≡ z → cacheTakes (length (cache h (cacheOf z))) z ≡ true → release c h ≡ giving 0 (pushCache (cacheOf z) c h)
 unfolding release
-release-cached c z h e l n =
-    rw (le-leb (sizeOf h c) mostCached (omega arith), release)
-    (rw (lt-ltb (length (cache h (cacheOf (sizeOf h c)))) cacheRoom (omega (arith, ap (λ (z : ℕ). length (stack h (cacheOf z))) e)))
-    (ap (λ (z : ℕ). giving 0 (pushCache (cacheOf z) c h)) e))
+release-cached c z h e t = let u : cacheTakes (length (cache h (cacheOf (sizeOf h c)))) (sizeOf h c) ≡ true = ap (λ (z : ℕ). cacheTakes (length (cache h (cacheOf z))) z) e ∙ t in
+    rw (u, release) (ap (λ (z : ℕ). giving 0 (pushCache (cacheOf z) c h)) e)
 
-release-full : (c z : ℕ) (h : Heap) → sizeOf h c ≡ z → z ≤ 1040 → 7 ≤ length (stack h (cacheOf z)) → release c h ≡ releasePast c h
+release-past : (c z : ℕ) (h : Heap) → sizeOf h c ≡ z → cacheTakes (length (cache h (cacheOf z))) z ≡ false → release c h ≡ releasePast c h
 unfolding release
-release-full c z h e l n =
-    rw (le-leb (sizeOf h c) mostCached (omega arith), release)
-    (rw (le-ltb (length (cache h (cacheOf (sizeOf h c)))) cacheRoom (omega (arith, ap (λ (z : ℕ). length (stack h (cacheOf z))) e))))
-
-release-large : (c z : ℕ) (h : Heap) → sizeOf h c ≡ z → 1040 < z → release c h ≡ releasePast c h
-unfolding release
-release-large c z h e l = rw (lt-leb (sizeOf h c) mostCached (omega arith), release)
+release-past c z h e t = let u : cacheTakes (length (cache h (cacheOf (sizeOf h c)))) (sizeOf h c) ≡ false = ap (λ (z : ℕ). cacheTakes (length (cache h (cacheOf z))) z) e ∙ t in
+    rw (u, release)
 
 -- ---- c is loose, and z is read as its size
 module _ (h : Heap) (w r : List ℕ) (c z : ℕ) (o : Ok h w r) (lo : Loose h c) (ez : z ≡ sizeAt w c) where
@@ -62,46 +62,45 @@ module _ (h : Heap) (w r : List ℕ) (c z : ℕ) (o : Ok h w r) (lo : Loose h c)
   pub past-join-gave : {v q : List ℕ} {s : ℕ} → 128 < z → Good h → Does ℕ (λ h. Good h × Loose h c) (join c) w r s v q → Gave ℕ (releasePast c h) s w v q
   past-join-gave l g D = gave-by (past-join c z h size-is l) (D .does h o (g, lo))
 
-  module _ (k n : ℕ) (ek : (k ≡ cacheOf z) × (k < 64)) (en : n ≡ getD r (cacheCount k) 0) where
-    count-is : n ≡ length (stack h k)
-    count-is = en ∙ ok-cacheCount h w r o k (ek .1)
+  -- t: what the test of the cache answered
+  module _ (t : Bool) (et : t ≡ cacheTakes (getD r (cacheCount (cacheOf z)) 0) z) where
+    module _ (y : t ≡ true) where
+      module _ (k : ℕ) (ek : k ≡ cacheOf z) where
+        pub takes-loose : Loose h c × (length (stack h k) < 7)
+        takes-loose = (lo, takes-room h w r z o t et y k ek)
 
-    own-count : n ≡ length (stack h (cacheOf z))
-    own-count = count-is ∙ ap (λ (k : ℕ). length (stack h k)) (ek .0)
+        cached-is : release c h ≡ giving 0 (pushCache k c h)
+        cached-is = release-cached c z h size-is (takes-is h w r z o t et ∙ y) ∙ ap (λ (k : ℕ). giving 0 (pushCache k c h)) (sym ek)
 
-    pub cached-room : n < 7 → Loose h c × (length (stack h k) < 7)
-    cached-room m = (lo, omega (arith, count-is))
+        module _ {v q : List ℕ} (D : Does (Unit {0}) (λ h. Loose h c × (length (stack h k) < 7)) (push k c) w r tt v q) where
+          pub cached-gave : Gave (Unit {0}) (giving tt (release c h)) tt w v q
+          cached-gave = gave-giving (release c h) 0 tt (gave-by cached-is (gave-giving (push k c h) tt 0 (D .does h o takes-loose)))
 
-    cached-is : z ≤ 1040 → n < 7 → release c h ≡ giving 0 (pushCache k c h)
-    cached-is l m = release-cached c z h size-is l (omega (arith, own-count)) ∙ ap (λ (k : ℕ). giving 0 (pushCache k c h)) (sym (ek .0))
+          pub cached-only : k < 64 → CacheOnly k r q
+          cached-only l = cache-only h k (c ∷ stack h k) r q (o .shape) l (o .rec) (D .does h o takes-loose .rec)
 
-    full-is : z ≤ 1040 → 7 ≤ n → release c h ≡ releasePast c h
-    full-is l m = release-full c z h size-is l (omega (arith, own-count))
+    pub passed-is : t ≡ false → release c h ≡ releasePast c h
+    passed-is n = release-past c z h size-is (takes-is h w r z o t et ∙ n)
 
-  large-is : 1040 < z → release c h ≡ releasePast c h
-  large-is l = release-large c z h size-is l
+-- ---- the cache was tried: c is on a list, or goes past
+pub on-gave : (c : ℕ) (x : Offered) (k : ℕ) (w r v q : List ℕ) → Comes c x w r v q → x ≡ On k
+    → Does (Unit {0}) (λ h. Good h × Loose h c) (λ h. giving tt (release c h)) w r tt v q × Changes (CacheList k) r q
+on-gave c x k w r v q m e =
+    let O : OnCache c k w r v q = subst (λ (x : Offered). Comes c x w r v q) e m in
+    (record { does = λ h o g. O .does .does h o (g .1) }, (O .list, O .only))
 
--- ---- the cache is tried
-module _ (w r : List ℕ) (c z : ℕ) (ez : z ≡ sizeAt w c) where
-  no-room : ((h : Heap) → Ok h w r → Loose h c → release c h ≡ releasePast c h) → Offered c 64 w r w r
-  no-room p = record { cached = λ l. absurd (omega arith); kept = λ l. record { arena = refl; rec = refl; past = p } }
+module _ (c : ℕ) (x : Offered) (w r v q : List ℕ) (m : Comes c x w r v q) (e : x ≡ NoRoom) where
+  passed : Passed c w r v q
+  passed = subst (λ (x : Offered). Comes c x w r v q) e m
 
-  pub offered-large : 1040 < z → Offered c 64 w r w r
-  offered-large l = no-room (λ h o lo. large-is h w r c z o lo ez l)
+  pub past-has : Has (λ h. Good h × Loose h c) w r → Has (λ h. Good h × Loose h c) v q
+  past-has H =
+      subst (λ (u : List ℕ). Has (λ h. Good h × Loose h c) u q) (sym (passed .arena))
+      (subst (Has (λ h. Good h × Loose h c) w) (sym (passed .rec)) H)
 
-  module _ (k n : ℕ) (l : z ≤ 1040) (ek : (k ≡ cacheOf z) × (k < 64)) (en : n ≡ getD r (cacheCount k) 0) where
-    pub offered-full : 7 ≤ n → Offered c 64 w r w r
-    offered-full m = no-room (λ h o lo. full-is h w r c z o lo ez k n ek en l m)
-
-    pub offered-cached : {v q : List ℕ} → n < 7 → Does (Unit {0}) (λ h. Loose h c × (length (stack h k) < 7)) (push k c) w r tt v q → Offered c k w r v q
-    offered-cached m D = record {
-      cached = λ b. record {
-        heap = λ h o lo. ap heapOf (cached-is h w r c z o lo ez k n ek en l m);
-        does = record {
-          does = λ h o lo.
-              gave-by (cached-is h w r c z o lo ez k n ek en l m)
-              (gave-giving (push k c h) tt 0 (D .does h o (cached-room h w r c z o lo ez k n ek en m)));
-        };
-      };
-      kept = λ b. absurd (omega (arith, ek .1));
-    }
+  pub past-does : {s : ℕ} {u p : List ℕ} → Does ℕ (λ h. Good h × Loose h c) (releasePast c) v q s u p
+      → Does (Unit {0}) (λ h. Good h × Loose h c) (λ h. giving tt (release c h)) w r tt u p
+  past-does {s} {u} {p} d =
+      let D = subst (λ (a : List ℕ). Does ℕ (λ h. Good h × Loose h c) (releasePast c) a r s u p) (passed .arena)
+      (subst (λ (a : List ℕ). Does ℕ (λ h. Good h × Loose h c) (releasePast c) v a s u p) (passed .rec) d) in
+      record { does = λ h o g. gave-giving (release c h) s tt (gave-by (passed .past h o (g .1)) (D .does h o g)) }

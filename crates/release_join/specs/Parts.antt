@@ -1,15 +1,18 @@
 -- The parts of a join as the code does them follow the machine: a chunk taken in, the chunk after taken in or not, the whole put down. One lemma for each way,
 -- and what each call requires. Assumes nothing.
 use mathlib.Core.Path.{_≡_, refl, sym, ap, _∙_, subst}
+use mathlib.Core.Bool.{Bool, true, false}
 use mathlib.Core.List.{List, [], _∷_, _++_}
 use mathlib.Core.Logic.{inl, inr, ⊎-elim}
 use Prim.Native.Nat.{ℕ, _+_, _-_, _*_, _%_, _≤_, _<_}
 use native.Mathlib.Omega.{arith}
 use lib.ListN.{length, getD, set}
 use lib.Seq.{getD-set-same}
+use borrow.Author.Tests.{eqb-true, eqb-false}
 use Rattle.sizes.specs.Limits.{unsorted}
 use Rattle.sizes.specs.Sizes.{binOf}
 use Rattle.sizes.specs.Layout.{lengthWord, topWord, sizeWord}
+use Rattle.sizes.specs.SizeWord.{pOfWord}
 use Rattle.machine.specs.Lists.{cnt}
 use Rattle.machine.specs.Count.{eq?, ind-same}
 use Rattle.machine.specs.Heap.{Tile, tile, Heap, bin, withTiles, endFrom, topOf, topSize, sizeOf, next, binned, binHas}
@@ -200,18 +203,23 @@ module _ (h : Heap) (w r : List ℕ) (c z : ℕ) (o : Ok h w r) (O : Open h c) (
   next-top-gave e =
       gave-by (next-no c h (ap (binned h) (next-is ∙ e ∙ ok-top h w r o) ∙ top-free h w r o)) (gave-none h tt w r (o .rec))
 
-  module _ (y p : ℕ) (ne : c + z ≡ getD r topWord 0 → ⊥) (ey : y ≡ sizeAt w (c + z)) (ep : p ≡ getD w (sizeWord (c + z + y)) 0 % 2) where
-    bit-is : p + binned h (c + z) ≡ 1
+  -- x: the size word behind the next chunk, p: its P
+  module _ (y x : ℕ) (p : Bool) (ne : c + z ≡ getD r topWord 0 → ⊥) (ey : y ≡ sizeAt w (c + z)) (ex : x ≡ getD w (sizeWord (c + z + y)) 0) (ep : p ≡ pOfWord x) where
+    bit-is : x % 2 + binned h (c + z) ≡ 1
     bit-is =
         let B = beyond ne in
         let q : y ≡ B .u .size = ey ∙ B .reads .size in
-        omega (arith, ap (λ (y : ℕ). getD w (sizeWord (c + z + y)) 0 % 2) q, B .lastly .p, B .bit)
+        omega (arith, ap (λ (n : ℕ). n % 2) ex, ap (λ (y : ℕ). getD w (sizeWord (c + z + y)) 0 % 2) q, B .lastly .p, B .bit)
 
-    pub next-alone-gave : (p ≡ 0 → ⊥) → Gave (Unit {0}) (joinNext c h) tt w w r
-    next-alone-gave n = gave-by (next-no c h (ap (binned h) next-is ∙ (let e : binned h (c + z) ≡ 0 = omega (arith, bit-is) in e)))
+    binned-is : p ≡ false → 1 ≤ binned h (c + z)
+    binned-is e = omega (arith, bit-is, eqb-false (x % 2) 1 (sym ep ∙ e))
+
+    pub next-alone-gave : p ≡ true → Gave (Unit {0}) (joinNext c h) tt w w r
+    next-alone-gave e =
+        gave-by (next-no c h (ap (binned h) next-is ∙ (let n : binned h (c + z) ≡ 0 = omega (arith, bit-is, eqb-true (x % 2) 1 (sym ep ∙ e)) in n)))
         (gave-none h tt w r (o .rec))
 
-    pub next-taking : p ≡ 0 → Taking h (c + z) y c (z + y)
+    pub next-taking : p ≡ false → Taking h (c + z) y c (z + y)
     next-taking e =
         let B = beyond ne in
         let f : fits (a ++ t ∷ []) × fits (B .u ∷ B .y) =
@@ -224,14 +232,14 @@ module _ (h : Heap) (w r : List ℕ) (c z : ℕ) (o : Ok h w r) (O : Open h c) (
           tiles = B .tiles;
           at = O .at;
           whole = omega (arith, here .size, B .reads .size);
-          home = home-of h (c + z) y (gap .homes) (omega (arith, bit-is))
+          home = home-of h (c + z) y (gap .homes) (binned-is e)
               (ap (sizeOf h) (sym after-is) ∙ size-at h (a ++ t ∷ []) (B .y) (B .u) (B .tiles ∙ sym (snoc-tiles a (B .u ∷ B .y) t)) (f .0)
               ∙ sym (ey ∙ B .reads .size));
         }
 
-    pub next-taken-gave : {v q : List ℕ} → p ≡ 0 → Does (Unit {0}) (λ h. Taking h (c + z) y c (z + y)) (absorb (c + z) c) w r tt v q
+    pub next-taken-gave : {v q : List ℕ} → p ≡ false → Does (Unit {0}) (λ h. Taking h (c + z) y c (z + y)) (absorb (c + z) c) w r tt v q
         → Gave (Unit {0}) (joinNext c h) tt w v q
-    next-taken-gave e D = gave-by (next-yes c (c + z) h next-is (omega (arith, bit-is))) (D .does h o (next-taking e))
+    next-taken-gave e D = gave-by (next-yes c (c + z) h next-is (binned-is e)) (D .does h o (next-taking e))
 
   -- ---- the whole is put down: it touches the top
   pub down-top-gave : {v q : List ℕ} (s : ℕ) → c + z ≡ getD r topWord 0 → s ≡ getD r lengthWord 0 - c → v ≡ put (size c s 1) w → q ≡ set r topWord c

@@ -6,4 +6,5 @@ pub mod SizeWord
 pub mod Offsets
 pub mod SizesLaws
 pub mod BinLaws
+pub mod BinSizes
 pub mod Figures

@@ -6,8 +6,7 @@ mod layout; // layout.rt: which word of the record is what
 mod limits; // limits.rt: document 01's limits
 
 pub use bins::bin_of;
-pub use bins::large_bin;
-pub use bins::last_word;
+pub use bins::least_of_bin;
 pub use layout::CACHE_COUNTS;
 pub use layout::CACHE_HEADS;
 pub use layout::FAST_HEADS;
@@ -16,10 +15,15 @@ pub use layout::REMAINDER_WORD;
 pub use layout::TOP_WORD;
 pub use layout::bin_first;
 pub use layout::bin_last;
+pub use layout::bin_of_list;
+pub use limits::ALL_LISTS;
+pub use limits::BINS_FROM;
 pub use limits::CACHE_LISTS;
 pub use limits::CACHE_ROOM;
+pub use limits::FAST_FROM;
 pub use limits::FAST_LISTS;
 pub use limits::LARGE;
+pub use limits::LARGE_BIN;
 pub use limits::LAST_BIN;
 pub use limits::LEAST_ARENA;
 pub use limits::LEAST_CHUNK;
@@ -128,13 +132,13 @@ impl SizeWord {
 }
 
 // A chunk's offset, which the lists hold, and its mem's, which callers see.
-pub struct Chunk(pub u32);
+pub struct Chunk(pub u64);
 
-pub struct Mem(pub u32);
+pub struct Mem(pub u64);
 
 impl Chunk {
     pub fn mem(self) -> Mem
-        requires { ⌜ self .0 + 16 < 2 ^ 32 ⌝ }
+        requires { ⌜ self .0 + 16 < 2 ^ 64 ⌝ }
         ensures { λ r. ⌜ r .0 ≡ memOf (self .0) ⌝ }
     {
         Mem(self.0 + 16)
@@ -142,6 +146,7 @@ impl Chunk {
 }
 
 impl Mem {
+    // Null, and every other number below the mem of chunk 0, is no chunk's.
     pub fn chunk(self) -> Chunk
         requires { ⌜ 16 ≤ self .0 ⌝ }
         ensures { λ r. ⌜ r .0 ≡ chunkOf (self .0) ⌝ }

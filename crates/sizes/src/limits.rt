@@ -1,4 +1,4 @@
-// Every limit of document 01, by the name that specs/Limits.antt gives it. Assumes nothing.
+// Every limit of document 01, by the name that specs/Limits.antt gives it, and the audit's order of lists. Assumes nothing.
 
 // An arena is a multiple of 16 bytes, from the least to the most.
 pub const LEAST_ARENA: usize = 32;
@@ -23,12 +23,21 @@ pub const MOST_FAST: u64 = 128;
 
 pub const FAST_LISTS: usize = 10;
 
-// The smallest large size, the unsorted bin, and the last bin.
+// The smallest large size and its bin, the unsorted bin, and the last bin.
 pub const LARGE: u64 = 1024;
+
+pub const LARGE_BIN: usize = 64;
 
 pub const UNSORTED: usize = 1;
 
 pub const LAST_BIN: usize = 126;
+
+// The audit numbers the lists in the order cache, fast, bins: the first fast list, bin 1, and how many lists there are.
+pub const FAST_FROM: u32 = 64;
+
+pub const BINS_FROM: u32 = 74;
+
+pub const ALL_LISTS: u32 = 200;
 
 // Step 5 stops after so many chunks binned.
 pub const MOST_BINNED: u32 = 10000;

@@ -24,8 +24,11 @@ returns c =
     let len = arena-length (s .args .a .now) (s .pre .0 .arena) in
     audit-record (arenaWords (s .args .a .now)) (s .args .r .now) _ (λ e. c .if1 .taken (e ∙ len))
 
-shared-slice-read-top : tie.Need-shared-slice-read-top
-shared-slice-read-top c = search needs
+shared-slice-read-t8 : tie.Need-shared-slice-read-t8
+shared-slice-read-t8 c = search needs
+
+cast-t13 : tie.Need-cast-t13
+cast-t13 c = omega (arith, c .shared-slice-known4 .given 1)
 
 tile-fault-requires : tie.Need-tile-fault-requires
 tile-fault-requires c κs = search needs
@@ -95,7 +98,8 @@ audit-marks-spec =
     shared-slice-read-if1
     cast-if1
     returns
-    shared-slice-read-top
+    shared-slice-read-t8
+    cast-t13
     tile-fault-requires
     is-sound-requires
     same-length

@@ -16,6 +16,9 @@ abbrev μ-loop : tie.MeasureT-loop
 loop-holds : tie.Need-loop-holds Inv-loop μ-loop
 loop-holds c = skipped-none _ _ (c .before .pre .1)
 
+add-loop : tie.Need-add-loop Inv-loop μ-loop
+add-loop c = search needs
+
 cast-eight-none : tie.Need-cast-eight-none Inv-loop μ-loop
 cast-eight-none c = search needs
 
@@ -59,6 +62,7 @@ skip-spec =
     Inv-loop
     μ-loop
     loop-holds
+    add-loop
     cast-eight-none
     add-eight-none
     eight-none-requires

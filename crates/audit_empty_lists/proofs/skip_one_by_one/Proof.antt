@@ -16,11 +16,8 @@ abbrev μ-loop : tie.MeasureT-loop
 loop-holds : tie.Need-loop-holds Inv-loop μ-loop
 loop-holds c = skipped-none _ _ (c .before .pre .2)
 
-sub-bin-first : tie.Need-sub-bin-first Inv-loop μ-loop
-sub-bin-first c = search needs
-
-cast-bin-first : tie.Need-cast-bin-first Inv-loop μ-loop
-cast-bin-first c = search needs
+bin-of-list-requires : tie.Need-bin-of-list-requires Inv-loop μ-loop
+bin-of-list-requires c κs = search needs
 
 bin-first-requires : tie.Need-bin-first-requires Inv-loop μ-loop
 bin-first-requires c κs = search needs
@@ -34,8 +31,8 @@ shared-slice-read-if1 c = search needs
 returns : tie.Need-returns Inv-loop μ-loop
 returns c = search needs
 
-add-if2 : tie.Need-add-if2 Inv-loop μ-loop
-add-if2 c = search needs
+bin-last-requires : tie.Need-bin-last-requires Inv-loop μ-loop
+bin-last-requires c κs = search needs
 
 mul-if2 : tie.Need-mul-if2 Inv-loop μ-loop
 mul-if2 c = search needs
@@ -54,10 +51,10 @@ loop-less c = search needs
 
 loop-again : tie.Need-loop-again Inv-loop μ-loop
 loop-again c =
-    let l = c .before .before .before .before .before .before .loop in
-    let p = c .before .before .before .before .before .before .before .before .pre in
-    skipped-bin _ _ _ _ (omega (arith, l .inv .low, p .1)) (c .before .before .before .before .before .loop-test .taken)
-    (c .before .before .before .before .bin-first .ensures) (l .inv) (c .before .before .if1 .left) (c .if2 .left)
+    let l = c .before .before .before .before .before .before .before .before .loop in
+    let p = c .before .before .before .before .before .before .before .before .before .before .pre in
+    skipped-bin _ _ _ _ _ _ (omega (arith, l .inv .low, p .1)) (c .before .before .before .before .before .before .before .loop-test .taken)
+    (c .before .before .before .before .before .before .bin-of-list .ensures) (c .before .before .before .before .before .bin-first .ensures) (c .before .before .bin-last .ensures) (l .inv) (c .before .before .before .if1 .left) (c .if2 .left)
 
 returns-3 : tie.Need-returns-3 Inv-loop μ-loop
 returns-3 c = search needs
@@ -69,13 +66,12 @@ skip-one-by-one-spec =
     Inv-loop
     μ-loop
     loop-holds
-    sub-bin-first
-    cast-bin-first
+    bin-of-list-requires
     bin-first-requires
     mul-if1
     shared-slice-read-if1
     returns
-    add-if2
+    bin-last-requires
     mul-if2
     shared-slice-read-if2
     returns-2

@@ -49,13 +49,13 @@ link-of-requires : tie.Need-link-of-requires
 link-of-requires c κs = search needs
 
 returns : tie.Need-returns
-returns c = let s = c .before .before .before .before .before in mayEnd-by (s .args .k) (Cache _) (s .args .r .now) (s .args .p) (s .args .n) (c .before .before .k .given .1)
+returns c = let s = c .before .before .before .before .before in mayEnd-by (s .args .k) (Cache _) (s .args .r .now) (s .args .p .0) (s .args .n) (c .before .before .k .given .1)
 
 returns-2 : tie.Need-returns-2
 returns-2 c = search needs
 
 returns-3 : tie.Need-returns-3
-returns-3 c = let s = c .before .before .before .before .before .before .before in ap (λ (v : ℕ). eqb v (s .args .p)) (c .link-of .ensures ∙ ap (λ (n : ℕ). up (getD (s .args .r .now) n 0)) (c .before .before .bin-last .ensures)) ∙ mayEnd-by (s .args .k) (Bin _) (s .args .r .now) (s .args .p) (s .args .n) (c .before .before .before .before .k2 .given .1)
+returns-3 c = let s = c .before .before .before .before .before .before .before .before .before in ap (λ (v : ℕ). eqb v (s .args .p .0)) (c .before .before .link-of .ensures ∙ ap (λ (n : ℕ). up (getD (s .args .r .now) n 0)) (c .before .before .before .before .bin-last .ensures)) ∙ mayEnd-by (s .args .k) (Bin _) (s .args .r .now) (s .args .p .0) (s .args .n) (c .before .before .before .before .before .before .k2 .given .1)
 
 pub may-end-spec : {M : Type 1} → statement M
 may-end-spec =

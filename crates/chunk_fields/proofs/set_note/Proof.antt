@@ -15,7 +15,7 @@ same-length c = search needs
 returns : tie.Need-returns
 returns c =
     let a = c .before .before .before .before .before .args in
-    let e : a .c / 8 + 0 ≡ a .c / 8 = omega arith in
+    let e : a .c .0 / 8 + 0 ≡ a .c .0 / 8 = omega arith in
     cc
 
 pub set-note-spec : {M : Type 1} → statement M

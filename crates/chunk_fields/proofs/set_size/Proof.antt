@@ -9,9 +9,6 @@ use Rattle.chunk_fields.proofs.set_size.Tie as tie
 add-set-word : tie.Need-add-set-word
 add-set-word c = search needs
 
-add-set-word-2 : tie.Need-add-set-word-2
-add-set-word-2 c = search needs
-
 set-word-requires : tie.Need-set-word-requires
 set-word-requires c κs = search needs
 
@@ -20,10 +17,13 @@ same-length c = search needs
 
 returns : tie.Need-returns
 returns c =
-    let a = c .before .before .before .before .before .args in
-    let e : (a .c + 8) / 8 ≡ a .c / 8 + 1 = omega arith in
+    let a = c .before .before .before .before .before .before .before .args in
+    let e : (a .c .0 + 8) / 8 ≡ a .c .0 / 8 + 1 = omega arith in
     cc
+
+make-requires : tie.Need-make-requires
+make-requires c κs = search needs
 
 pub set-size-spec : {M : Type 1} → statement M
 set-size-spec =
-    tie.close (tie.spec add-set-word add-set-word-2 set-word-requires same-length returns)
+    tie.close (tie.spec make-requires add-set-word set-word-requires same-length returns)

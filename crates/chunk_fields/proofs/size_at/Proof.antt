@@ -1,25 +1,18 @@
--- `chunk_fields::size_at` meets its contract: the size word of a chunk stands 8 bytes, which is 1 words, behind its start. Assumes nothing.
-use mathlib.Core.Path.{_≡_}
-use Prim.Native.Nat.{_+_, _/_}
-use native.Mathlib.Omega.{arith}
+-- `chunk_fields::size_at` meets its contract: the size word's size. Assumes nothing.
+use mathlib.Core.Path.{ap, _∙_}
+use Rattle.sizes.specs.SizeWord.{sizeOfWord}
 use borrow.Author.Needs.{needs}
 use Rattle.chunk_fields.proofs.size_at.Statement.{statement}
 use Rattle.chunk_fields.proofs.size_at.Tie as tie
 
-add-word : tie.Need-add-word
-add-word c = search needs
+size-word-at-requires : tie.Need-size-word-at-requires
+size-word-at-requires c κs = search needs
 
-word-requires : tie.Need-word-requires
-word-requires c κs = search needs
-
-mul-result : tie.Need-mul-result
-mul-result c = search needs
+size-requires : tie.Need-size-requires
+size-requires c κs = search needs
 
 returns : tie.Need-returns
-returns c =
-    let a = c .before .before .args in
-    let e : (a .c + 8) / 8 ≡ a .c / 8 + 1 = omega arith in
-    cc
+returns c = c .size .ensures ∙ ap sizeOfWord (c .before .size-word-at .ensures)
 
 pub size-at-spec : {M : Type 1} → statement M
-size-at-spec = tie.close (tie.spec add-word word-requires mul-result returns)
+size-at-spec = tie.close (tie.spec size-word-at-requires size-requires returns)

@@ -42,15 +42,4 @@ returns-2 c = from-end _ (c .before .loop .k) (omega (arith, c .loop-test .left,
 pub any-fast-spec : {M : Type 1} → statement M
 any-fast-spec =
     tie.close
-    (tie.spec
-    Inv-loop
-    μ-loop
-    loop-holds
-    add-if1
-    mul-if1
-    shared-slice-read-if1
-    returns
-    add-k
-    loop-less
-    loop-again
-    returns-2)
+    (tie.spec Inv-loop μ-loop loop-holds add-if1 mul-if1 shared-slice-read-if1 returns add-k loop-less loop-again returns-2)

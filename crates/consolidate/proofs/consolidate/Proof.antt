@@ -56,14 +56,4 @@ returns c = record { does = λ h o g. fast-end _ (c .loop-test .left) (c .before
 pub consolidate-spec : {M : Type 1} → statement M
 consolidate-spec =
     tie.close
-    (tie.spec
-    Inv-loop
-    μ-loop
-    loop-holds
-    drain-fast-requires
-    add-k
-    loop-less
-    loop-again
-    same-length
-    same-length-2
-    returns)
+    (tie.spec Inv-loop μ-loop loop-holds drain-fast-requires add-k loop-less loop-again same-length same-length-2 returns)

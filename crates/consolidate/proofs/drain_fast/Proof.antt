@@ -97,17 +97,4 @@ returns c =
 pub drain-fast-spec : {M : Type 1} → statement M
 drain-fast-spec =
     tie.close
-    (tie.spec
-    Inv-loop
-    μ-loop
-    loop-holds
-    add-if1
-    mul-if1
-    slice-read-if1
-    take-fast-requires
-    join-requires
-    loop-less
-    loop-again
-    same-length
-    same-length-2
-    returns)
+    (tie.spec Inv-loop μ-loop loop-holds add-if1 mul-if1 slice-read-if1 take-fast-requires join-requires loop-less loop-again same-length same-length-2 returns)

@@ -35,12 +35,4 @@ returns-2 c = let s = c .before .before .before .before .before in again-over (s
 pub again-spec : {M : Type 1} → statement M
 again-spec =
     tie.close
-    (tie.spec
-    any-fast-requires
-    consolidate-requires
-    pass-requires
-    same-length
-    same-length-2
-    returns
-    same-length-3
-    returns-2)
+    (tie.spec any-fast-requires consolidate-requires pass-requires same-length same-length-2 returns same-length-3 returns-2)

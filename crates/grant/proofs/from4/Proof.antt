@@ -50,15 +50,4 @@ returns-2 c =
 pub from4-spec : {M : Type 1} → statement M
 from4-spec =
     tie.close
-    (tie.spec
-    step4-requires
-    pass-requires
-    enum-known-g
-    same-length
-    same-length-2
-    returns
-    enum-told
-    again-requires
-    same-length-3
-    same-length-4
-    returns-2)
+    (tie.spec step4-requires pass-requires enum-known-g same-length same-length-2 returns enum-told again-requires same-length-3 same-length-4 returns-2)

@@ -93,26 +93,4 @@ returns-4 c =
 pub pass-spec : {M : Type 1} → statement M
 pass-spec =
     tie.close
-    (tie.spec
-    step5-requires
-    enum-known-g5
-    same-length
-    same-length-2
-    returns
-    enum-told
-    step6-requires
-    enum-known-g6
-    same-length-3
-    same-length-4
-    returns-2
-    enum-told-2
-    step7-requires
-    enum-known-g7
-    same-length-5
-    same-length-6
-    returns-3
-    enum-told-3
-    step9-requires
-    same-length-7
-    same-length-8
-    returns-4)
+    (tie.spec step5-requires enum-known-g5 same-length same-length-2 returns enum-told step6-requires enum-known-g6 same-length-3 same-length-4 returns-2 enum-told-2 step7-requires enum-known-g7 same-length-5 same-length-6 returns-3 enum-told-3 step9-requires same-length-7 same-length-8 returns-4)

@@ -66,20 +66,4 @@ returns-3 c =
 pub seek-spec : {M : Type 1} → statement M
 seek-spec =
     tie.close
-    (tie.spec
-    step2-requires
-    enum-known-g2
-    same-length
-    same-length-2
-    returns
-    enum-told
-    step3-requires
-    enum-known-g3
-    same-length-3
-    same-length-4
-    returns-2
-    enum-told-2
-    from4-requires
-    same-length-5
-    same-length-6
-    returns-3)
+    (tie.spec step2-requires enum-known-g2 same-length same-length-2 returns enum-told step3-requires enum-known-g3 same-length-3 same-length-4 returns-2 enum-told-2 from4-requires same-length-5 same-length-6 returns-3)

@@ -17,30 +17,27 @@ shared-slice-read-if2 : tie.Need-shared-slice-read-if2
 shared-slice-read-if2 c = search needs
 
 returns-2 : tie.Need-returns-2
-returns-2 c = not-only _ _ _ _ (c .before .before .before .if1 .left) _ (c .before .before .bin-first .ensures) (c .if2 .taken)
+returns-2 c = not-only _ _ _ _ (c .before .before .before .before .if1 .left) _ (c .before .before .before .bin-first .ensures) (c .if2 .taken)
 
 shared-slice-read-if3 : tie.Need-shared-slice-read-if3
 shared-slice-read-if3 c = search needs
 
 returns-3 : tie.Need-returns-3
-returns-3 c = not-remainder _ _ _ _ (c .before .before .before .before .before .if1 .left) _ (c .before .before .before .before .bin-first .ensures) (c .before .before .if2 .left) (c .if3 .taken)
+returns-3 c = not-remainder _ _ _ _ (c .before .before .before .before .before .before .before .if1 .left) _ (c .before .before .before .before .before .before .bin-first .ensures) (c .before .before .before .if2 .left) (c .if3 .taken)
 
 add-result : tie.Need-add-result
 add-result c = search needs
 
 returns-4 : tie.Need-returns-4
-returns-4 c = by-room _ _ _ _ (c .before .before .before .before .before .if1 .left) _ (c .before .before .before .before .bin-first .ensures) (c .before .before .if2 .left) (c .if3 .left)
+returns-4 c = by-room _ _ _ _ (c .before .before .before .before .before .before .before .if1 .left) _ (c .before .before .before .before .before .before .bin-first .ensures) (c .before .before .before .if2 .left) (c .if3 .left)
+
+cast-if2 : tie.Need-cast-if2
+cast-if2 c = let g = c .shared-slice-known2 .given (c .before .bin-first .result) in search needs
+
+cast-if3 : tie.Need-cast-if3
+cast-if3 c = let g = c .shared-slice-known3 .given 2 in search needs
 
 pub is-lone-spec : {M : Type 1} → statement M
 is-lone-spec =
     tie.close
-    (tie.spec
-    returns
-    bin-first-requires
-    mul-if2
-    shared-slice-read-if2
-    returns-2
-    shared-slice-read-if3
-    returns-3
-    add-result
-    returns-4)
+    (tie.spec returns bin-first-requires mul-if2 shared-slice-read-if2 cast-if2 returns-2 shared-slice-read-if3 cast-if3 returns-3 add-result returns-4)

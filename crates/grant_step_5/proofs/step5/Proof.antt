@@ -125,28 +125,4 @@ returns-3 c =
 pub step5-spec : {M : Type 1} → statement M
 step5-spec =
     tie.close
-    (tie.spec
-    Inv-loop
-    μ-loop
-    loop-holds
-    turn-requires
-    enum-known-t
-    same-length
-    same-length-2
-    returns
-    enum-told
-    loop-less
-    loop-again
-    enum-told-2
-    sub-left
-    loop-less-2
-    loop-again-2
-    enum-told-3
-    swept-requires
-    same-length-3
-    same-length-4
-    returns-2
-    swept-requires-2
-    same-length-5
-    same-length-6
-    returns-3)
+    (tie.spec Inv-loop μ-loop loop-holds turn-requires enum-known-t same-length same-length-2 returns enum-told loop-less loop-again enum-told-2 sub-left loop-less-2 loop-again-2 enum-told-3 swept-requires same-length-3 same-length-4 returns-2 swept-requires-2 same-length-5 same-length-6 returns-3)

@@ -18,9 +18,9 @@ take-cache-requires c κs =
 
 cast-t10 : tie.Need-cast-t10
 cast-t10 c =
-    let s = c .before .before .before .before .before .before .before .before in
+    let s = c .before .before .before .before .before .before .before .before .before in
     let p = s .pre .1 in
-    let i = swept-small (p .heap) _ _ (s .args .b) (s .args .got) (p .ok) (p .holds) (c .before .before .before .before .before .if1 .taken) _ (c .before .before .before .before .cache-list .ensures .0) _ _ (c .before .before .take-cache .ensures) in
+    let i = swept-small (p .heap) _ _ (s .args .b) (s .args .got) (p .ok) (p .holds) (c .before .before .before .before .before .before .if1 .taken) _ (c .before .before .before .before .before .cache-list .ensures .0) _ _ (c .before .before .before .take-cache .ensures) in
     record { fits = omega arith }
 
 same-length : tie.Need-same-length
@@ -28,8 +28,8 @@ same-length c = search needs
 
 returns : tie.Need-returns
 returns c =
-    let s = c .before .before .before .before .before .before .before .before in
-    record { does = λ h o k. swept-gave h _ _ (s .args .b) (s .args .got) o k (c .before .before .before .before .before .if1 .taken) _ (c .before .before .before .before .cache-list .ensures .0) _ _ (c .before .before .take-cache .ensures) }
+    let s = c .before .before .before .before .before .before .before .before .before in
+    record { does = λ h o k. swept-gave h _ _ (s .args .b) (s .args .got) o k (c .before .before .before .before .before .before .if1 .taken) _ (c .before .before .before .before .before .cache-list .ensures .0) _ _ (c .before .before .before .take-cache .ensures) }
 
 returns-2 : tie.Need-returns-2
 returns-2 c =

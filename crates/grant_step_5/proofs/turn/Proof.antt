@@ -10,21 +10,21 @@ use Rattle.grant_step_5.proofs.turn.Tie as tie
 bin-last-requires : tie.Need-bin-last-requires
 bin-last-requires c κs = search needs
 
-mul-c : tie.Need-mul-c
-mul-c c = search needs
+mul-last : tie.Need-mul-last
+mul-last c = search needs
 
-slice-read-c : tie.Need-slice-read-c
-slice-read-c c = omega (arith, ok-length _ _ _ (c .before .before .before .before .pre .2 .ok))
+slice-read-last : tie.Need-slice-read-last
+slice-read-last c = omega (arith, ok-length _ _ _ (c .before .before .before .before .pre .2 .ok))
 
 returns : tie.Need-returns
 returns c =
     let e = c .before .before .bin-last .ensures in
     record { does = λ h o g. empty-gave _ h _ _ o (last-none h _ _ o _ e (c .if1 .taken)) }
 
-cast-size-at : tie.Need-cast-size-at
-cast-size-at c =
-    let p = c .before .before .before .before .before .before .pre .2 in
-    let i = last-inside (p .heap) _ _ (last-some (p .heap) _ _ (p .ok) _ (c .before .before .before .bin-last .ensures) (c .before .if1 .left)) in
+cast-t12 : tie.Need-cast-t12
+cast-t12 c =
+    let p = c .before .before .before .before .before .pre .2 in
+    let i = last-inside (p .heap) _ _ (last-some (p .heap) _ _ (p .ok) _ (c .before .before .bin-last .ensures) (c .if1 .left)) in
     record { fits = omega arith }
 
 size-at-requires : tie.Need-size-at-requires
@@ -35,12 +35,6 @@ size-at-requires c κs =
 
 is-lone-requires : tie.Need-is-lone-requires
 is-lone-requires c κs = ok-length _ _ _ (c .before .before .before .before .before .before .before .before .pre .2 .ok)
-
-cast-split-lone : tie.Need-cast-split-lone
-cast-split-lone c =
-    let p = c .before .before .before .before .before .before .before .before .before .before .before .before .pre .2 in
-    let i = last-inside (p .heap) _ _ (last-some (p .heap) _ _ (p .ok) _ (c .before .before .before .before .before .before .before .before .before .bin-last .ensures) (c .before .before .before .before .before .before .before .if1 .left)) in
-    record { fits = omega arith }
 
 split-lone-requires : tie.Need-split-lone-requires
 split-lone-requires c κs =
@@ -95,20 +89,4 @@ returns-3 c =
 pub turn-spec : {M : Type 1} → statement M
 turn-spec =
     tie.close
-    (tie.spec
-    bin-last-requires
-    mul-c
-    slice-read-c
-    returns
-    cast-size-at
-    size-at-requires
-    is-lone-requires
-    cast-split-lone
-    split-lone-requires
-    same-length
-    same-length-2
-    returns-2
-    take-out-requires
-    same-length-3
-    same-length-4
-    returns-3)
+    (tie.spec bin-last-requires mul-last slice-read-last returns cast-t12 size-at-requires is-lone-requires split-lone-requires same-length same-length-2 returns-2 take-out-requires same-length-3 same-length-4 returns-3)

@@ -25,8 +25,8 @@ returns c =
     let z = c .before .before .before .before .before .before .before .before in
     let s = z .before .before .before .args in
     c .before .before .set-note .ensures
-    ∙ ap (λ (w : List ℕ). put (note (s .n) (s .s)) w)
-    (c .before .before .before .before .before .before .set-size .ensures ∙ ap (λ (x : ℕ). put (size (s .n) x 0) (arenaWords (s .a .now))) (z .size-at .ensures))
+    ∙ ap (λ (w : List ℕ). put (note (s .n .0) (s .s)) w)
+    (c .before .before .before .before .before .before .set-size .ensures ∙ ap (λ (x : ℕ). put (size (s .n .0) x 0) (arenaWords (s .a .now))) (z .size-at .ensures))
 
 pub clear-p-spec : {M : Type 1} → statement M
 clear-p-spec =

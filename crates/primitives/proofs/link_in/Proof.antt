@@ -11,10 +11,10 @@ use borrow.Author.Needs.{needs}
 use Rattle.primitives.proofs.link_in.Statement.{statement}
 use Rattle.primitives.proofs.link_in.Tie as tie
 
-inside : (c : tie.Start) → Inside (length (now (c .args .a))) (c .args .c)
-inside c = loose-inside _ _ _ (c .pre .2 .ok) (c .args .c) (c .pre .2 .holds .0)
+inside : (c : tie.Start) → Inside (length (now (c .args .a))) (c .args .c .0)
+inside c = loose-inside _ _ _ (c .pre .2 .ok) (c .args .c .0) (c .pre .2 .holds .0)
 
-ends : (c : tie.Start) → Ready (length (now (c .args .a))) (c .args .p) (c .args .n)
+ends : (c : tie.Start) → Ready (length (now (c .args .a))) (c .args .p .0) (c .args .n .0)
 ends c = gap-ready _ _ _ _ _ _ _ _ (c .pre .2 .ok) (c .pre .2 .holds .1 .gap)
 
 set-fwd-requires : tie.Need-set-fwd-requires
@@ -59,17 +59,10 @@ returns c =
     let k = f .before .before .before .before .before in
     let d = k .before .before .before .before in
     let s = d .before .before .before .before in
-    λ h xs ys o lo g. link-in-gave h _ _ o (s .args .j) (s .args .c) _ _ xs ys _ _ _ _ _ _ (s .pre .0) (s .pre .1) lo g (d .set-fwd .ensures) (k .set-back .ensures)
+    λ h xs ys o lo g. link-in-gave h _ _ o (s .args .j) (s .args .c .0) _ _ xs ys _ _ _ _ _ _ (s .pre .0) (s .pre .1) lo g (d .set-fwd .ensures) (k .set-back .ensures)
     (f .link-fwd .ensures .0) (f .link-fwd .ensures .1) (b .link-back .ensures .0) (b .link-back .ensures .1)
 
 pub link-in-spec : {M : Type 1} → statement M
 link-in-spec =
     tie.close
-    (tie.spec
-    set-fwd-requires
-    set-back-requires
-    link-fwd-requires
-    link-back-requires
-    same-length
-    same-length-2
-    returns)
+    (tie.spec set-fwd-requires set-back-requires link-fwd-requires link-back-requires same-length same-length-2 returns)

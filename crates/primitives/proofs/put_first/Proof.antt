@@ -48,12 +48,4 @@ returns c =
 pub put-first-spec : {M : Type 1} → statement M
 put-first-spec =
     tie.close
-    (tie.spec
-    bin-first-requires
-    mul-link-of
-    slice-read-link-of
-    link-of-requires
-    link-in-requires
-    same-length
-    same-length-2
-    returns)
+    (tie.spec bin-first-requires mul-link-of slice-read-link-of link-of-requires link-in-requires same-length same-length-2 returns)

@@ -20,7 +20,7 @@ returns : tie.Need-returns
 returns c =
     let z = c .before .before .before .before in
     let s = z .before .before .before .args in
-    c .before .before .set-size .ensures ∙ ap (λ (x : ℕ). put (size (s .n) x 1) (arenaWords (s .a .now))) (z .size-at .ensures)
+    c .before .before .set-size .ensures ∙ ap (λ (x : ℕ). put (size (s .n .0) x 1) (arenaWords (s .a .now))) (z .size-at .ensures)
 
 pub set-p-spec : {M : Type 1} → statement M
 set-p-spec = tie.close (tie.spec size-at-requires set-size-requires same-length returns)

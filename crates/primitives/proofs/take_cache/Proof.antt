@@ -8,17 +8,17 @@ use borrow.Author.Needs.{needs}
 use Rattle.primitives.proofs.take_cache.Statement.{statement}
 use Rattle.primitives.proofs.take_cache.Tie as tie
 
-add-c : tie.Need-add-c
-add-c c = search needs
+add-t6 : tie.Need-add-t6
+add-t6 c = search needs
 
-mul-c : tie.Need-mul-c
-mul-c c = search needs
+mul-t7 : tie.Need-mul-t7
+mul-t7 c = search needs
 
-slice-read-c : tie.Need-slice-read-c
-slice-read-c c = omega (arith, ok-length _ _ _ (c .before .before .before .pre .1 .ok))
+slice-read-t9 : tie.Need-slice-read-t9
+slice-read-t9 c = omega (arith, ok-length _ _ _ (c .before .before .before .pre .1 .ok))
 
-cast-c : tie.Need-cast-c
-cast-c c = let g = c .slice-known2 .given (3 + c .before .before .before .args .k) in search needs
+cast-t10 : tie.Need-cast-t10
+cast-t10 c = let g = c .slice-known2 .given (3 + c .before .before .before .args .k) in search needs
 
 add-n : tie.Need-add-n
 add-n c = search needs
@@ -70,22 +70,4 @@ returns c =
 pub take-cache-spec : {M : Type 1} → statement M
 take-cache-spec =
     tie.close
-    (tie.spec
-    add-c
-    mul-c
-    slice-read-c
-    cast-c
-    add-n
-    mul-n
-    slice-read-n
-    fwd-at-requires
-    word-of-requires
-    add-r
-    mul-r
-    slice-write-r
-    sub-r
-    add-r-2
-    mul-r-2
-    slice-write-r-2
-    same-length
-    returns)
+    (tie.spec add-t6 mul-t7 slice-read-t9 cast-t10 add-n mul-n slice-read-n fwd-at-requires word-of-requires add-r mul-r slice-write-r sub-r add-r-2 mul-r-2 slice-write-r-2 same-length returns)

@@ -7,17 +7,17 @@ use borrow.Author.Needs.{needs}
 use Rattle.primitives.proofs.take_fast.Statement.{statement}
 use Rattle.primitives.proofs.take_fast.Tie as tie
 
-add-c : tie.Need-add-c
-add-c c = search needs
+add-t5 : tie.Need-add-t5
+add-t5 c = search needs
 
-mul-c : tie.Need-mul-c
-mul-c c = search needs
+mul-t6 : tie.Need-mul-t6
+mul-t6 c = search needs
 
-slice-read-c : tie.Need-slice-read-c
-slice-read-c c = omega (arith, ok-length _ _ _ (c .before .before .before .pre .1 .ok))
+slice-read-t8 : tie.Need-slice-read-t8
+slice-read-t8 c = omega (arith, ok-length _ _ _ (c .before .before .before .pre .1 .ok))
 
-cast-c : tie.Need-cast-c
-cast-c c = let g = c .slice-known2 .given (131 + c .before .before .before .args .k) in search needs
+cast-t9 : tie.Need-cast-t9
+cast-t9 c = let g = c .slice-known2 .given (131 + c .before .before .before .args .k) in search needs
 
 fwd-at-requires : tie.Need-fwd-at-requires
 fwd-at-requires c κs =
@@ -48,15 +48,4 @@ returns c =
 pub take-fast-spec : {M : Type 1} → statement M
 take-fast-spec =
     tie.close
-    (tie.spec
-    add-c
-    mul-c
-    slice-read-c
-    cast-c
-    fwd-at-requires
-    word-of-requires
-    add-r
-    mul-r
-    slice-write-r
-    same-length
-    returns)
+    (tie.spec add-t5 mul-t6 slice-read-t8 cast-t9 fwd-at-requires word-of-requires add-r mul-r slice-write-r same-length returns)

@@ -10,7 +10,7 @@ use Rattle.release.specs.Release.{loose-least, past-fast-gave, past-join
 use Rattle.release.proofs.release_past.Statement.{statement}
 use Rattle.release.proofs.release_past.Tie as tie
 
-at : (s : tie.Start) → Inside (length (s .args .a .now)) (s .args .c)
+at : (s : tie.Start) → Inside (length (s .args .a .now)) (s .args .c .0)
 at s = loose-inside _ _ _ (s .pre .ok) _ (s .pre .holds .1)
 
 -- c's size as it was read
@@ -62,14 +62,4 @@ returns-2 c =
 pub release-past-spec : {M : Type 1} → statement M
 release-past-spec =
     tie.close
-    (tie.spec
-    size-at-requires
-    fast-list-requires
-    push-fast-requires
-    same-length
-    same-length-2
-    returns
-    join-requires
-    same-length-3
-    same-length-4
-    returns-2)
+    (tie.spec size-at-requires fast-list-requires push-fast-requires same-length same-length-2 returns join-requires same-length-3 same-length-4 returns-2)

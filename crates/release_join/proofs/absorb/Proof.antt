@@ -7,8 +7,8 @@ use Rattle.release_join.specs.Parts.{taking-binned, taking-inside, takin
 use Rattle.release_join.proofs.absorb.Statement.{statement}
 use Rattle.release_join.proofs.absorb.Tie as tie
 
-unlink-requires : tie.Need-unlink-requires
-unlink-requires c κs =
+unlink-wherever-requires : tie.Need-unlink-wherever-requires
+unlink-wherever-requires c κs =
     let s = c .before .before .before .before in
     record { heap = s .pre .heap; ok = s .pre .ok; holds = taking-binned _ _ _ _ _ _ _ (s .pre .ok) (s .pre .holds) }
 
@@ -16,7 +16,7 @@ set-size-requires : tie.Need-set-size-requires
 set-size-requires c κs =
     let s = c .before .before .before .before .before .before .before .before .before .before in
     let k = taking-inside _ _ _ _ _ _ _ (s .pre .ok) (s .pre .holds) _ (arena-fits (s .args .a .now)) in
-    omega (arith, c .before .before .before .before .before .unlink .kept .0, taking-small _ _ _ _ _ _ _ (s .pre .ok) (s .pre .holds))
+    omega (arith, c .before .before .before .before .before .unlink-wherever .kept .0, taking-small _ _ _ _ _ _ _ (s .pre .ok) (s .pre .holds))
 
 same-length : tie.Need-same-length
 same-length c = search needs
@@ -29,10 +29,10 @@ returns c =
     let u = c .before .before .before .before .before .before .before .before in
     let s = u .before .before .before .before .before in
     let e = c .before .before .set-size .ensures in (
-      record { does = λ h o t. absorb-gave h _ _ _ _ _ _ o t (u .unlink .ensures) e },
-      absorb-size _ _ _ _ _ _ _ (s .pre .ok) (s .pre .holds) (u .unlink .ensures) e,
+      record { does = λ h o t. absorb-gave h _ _ _ _ _ _ o t (u .unlink-wherever .ensures) e },
+      absorb-size _ _ _ _ _ _ _ (s .pre .ok) (s .pre .holds) (u .unlink-wherever .ensures) e,
     )
 
 pub absorb-spec : {M : Type 1} → statement M
 absorb-spec =
-    tie.close (tie.spec unlink-requires set-size-requires same-length same-length-2 returns)
+    tie.close (tie.spec unlink-wherever-requires set-size-requires same-length same-length-2 returns)

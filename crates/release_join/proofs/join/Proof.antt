@@ -13,16 +13,16 @@ use Rattle.release_join.specs.Join.{Behind, behind, absorbed-has, join-p
 use Rattle.release_join.proofs.join.Statement.{statement}
 use Rattle.release_join.proofs.join.Tie as tie
 
-at : (s : tie.Start) → Inside (length (s .args .a .now)) (s .args .c)
+at : (s : tie.Start) → Inside (length (s .args .a .now)) (s .args .c .0)
 at s = loose-inside _ _ _ (s .pre .ok) _ (s .pre .holds .1)
 
 -- c's size, out of the word as it was read
-size-read : (z : tie.After-size) → z .size .result ≡ sizeAt (arenaWords (z .before .before .before .before .before .args .a .now)) (z .before .before .before .before .before .args .c)
+size-read : (z : tie.After-size) → z .size .result ≡ sizeAt (arenaWords (z .before .before .before .before .before .args .a .now)) (z .before .before .before .before .before .args .c .0)
 size-read z = z .size .ensures ∙ ap sizeOfWord (z .before .size-word-at .ensures)
 
 -- the chunk before c, as it was read
 back : (n : tie.After-note-at)
-    → Behind (n .before .before .before .before .before .before .before .before .before .pre .heap) (arenaWords (n .before .before .before .before .before .before .before .before .before .args .a .now)) (n .before .before .before .before .before .before .before .before .before .args .c) (n .note-at .result) (n .before .before .before .before .size .result)
+    → Behind (n .before .before .before .before .before .before .before .before .before .pre .heap) (arenaWords (n .before .before .before .before .before .before .before .before .before .args .a .now)) (n .before .before .before .before .before .before .before .before .before .args .c .0) (n .note-at .result) (n .before .before .before .before .size .result)
 back n =
     let p = n .before .before .before in
     let z = p .before in
@@ -70,19 +70,19 @@ returns c =
 note-at-requires : tie.Need-note-at-requires
 note-at-requires c κs = let k = at (c .before .before .before .before .before .before .before .before) in omega arith
 
-sub-q : tie.Need-sub-q
-sub-q c = omega (arith, back c .low)
+sub-t18 : tie.Need-sub-t18
+sub-t18 c = omega (arith, back (c .before) .low)
 
 add-s : tie.Need-add-s
-add-s c = omega (arith, back c .small)
+add-s c = omega (arith, back (c .before) .small)
 
 absorb-requires : tie.Need-absorb-requires
-absorb-requires c κs = let s = c .before .before .before .before .before .before .before .before .before .before .before in record { heap = s .pre .heap; ok = s .pre .ok; holds = back (c .before .before) .taking }
+absorb-requires c κs = let s = c .before .before .before .before .before .before .before .before .before .before .before .before in record { heap = s .pre .heap; ok = s .pre .ok; holds = back (c .before .before .before) .taking }
 
 join-rest-requires-2 : tie.Need-join-rest-requires-2
 join-rest-requires-2 c κs =
     let b = c .before .before .before .before .before .before in
-    (absorbed-has _ _ _ _ _ _ (b .before .before .before .before .before .before .before .before .before .before .before .before .pre .ok) (back (b .before .before .before)) (b .absorb .ensures .0), sym (b .absorb .ensures .1))
+    (absorbed-has _ _ _ _ _ _ (b .before .before .before .before .before .before .before .before .before .before .before .before .before .pre .ok) (back (b .before .before .before .before)) (b .absorb .ensures .0), sym (b .absorb .ensures .1))
 
 same-length-3 : tie.Need-same-length-3
 same-length-3 c = search needs
@@ -93,7 +93,7 @@ same-length-4 c = search needs
 returns-2 : tie.Need-returns-2
 returns-2 c =
     let b = c .before .before .before .before .before .before .before .before .before .before .before in
-    let n = b .before .before .before in
+    let n = b .before .before .before .before in
     let p = n .before .before .before in
     record {
       does = λ h o g.
@@ -106,19 +106,4 @@ returns-2 c =
 pub join-spec : {M : Type 1} → statement M
 join-spec =
     tie.close
-    (tie.spec
-    size-word-at-requires
-    size-requires
-    has-p-requires
-    join-rest-requires
-    same-length
-    same-length-2
-    returns
-    note-at-requires
-    sub-q
-    add-s
-    absorb-requires
-    join-rest-requires-2
-    same-length-3
-    same-length-4
-    returns-2)
+    (tie.spec size-word-at-requires size-requires has-p-requires join-rest-requires same-length same-length-2 returns note-at-requires sub-t18 add-s absorb-requires join-rest-requires-2 same-length-3 same-length-4 returns-2)

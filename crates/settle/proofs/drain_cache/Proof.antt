@@ -100,17 +100,4 @@ returns c =
 pub drain-cache-spec : {M : Type 1} → statement M
 drain-cache-spec =
     tie.close
-    (tie.spec
-    Inv-loop
-    μ-loop
-    loop-holds
-    add-if1
-    mul-if1
-    slice-read-if1
-    take-cache-requires
-    release-past-requires
-    loop-less
-    loop-again
-    same-length
-    same-length-2
-    returns)
+    (tie.spec Inv-loop μ-loop loop-holds add-if1 mul-if1 slice-read-if1 take-cache-requires release-past-requires loop-less loop-again same-length same-length-2 returns)

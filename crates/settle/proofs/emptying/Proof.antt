@@ -56,14 +56,4 @@ returns c = record { does = λ h o g. cache-end _ (c .loop-test .left) (c .befor
 pub emptying-spec : {M : Type 1} → statement M
 emptying-spec =
     tie.close
-    (tie.spec
-    Inv-loop
-    μ-loop
-    loop-holds
-    drain-cache-requires
-    add-k
-    loop-less
-    loop-again
-    same-length
-    same-length-2
-    returns)
+    (tie.spec Inv-loop μ-loop loop-holds drain-cache-requires add-k loop-less loop-again same-length same-length-2 returns)

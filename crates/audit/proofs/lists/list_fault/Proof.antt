@@ -1,26 +1,26 @@
 -- `lists::list_fault` meets its contract: the outer loop keeps Out, the inner one In, and each way out is a lemma of ListTurn. The measures are the lists
--- to come, and the marks that are 1. Assumes nothing.
-use mathlib.Core.Path.{_≡_, refl, sym, ap, _∙_}
-use Prim.Native.Nat.{ℕ, _-_, _*_, _/_, _≤_, _<_}
+-- to come, and the chunks that were not met. Assumes nothing.
+use mathlib.Core.Path.{_≡_, refl, sym, _∙_}
+use Prim.Native.Nat.{ℕ, _-_, _/_, _≤_, _<_}
 use native.Mathlib.Omega.{arith}
 use lib.ListN.{length, length-set}
 use borrow.Author.Tests.{not-true, not-false}
 use borrow.Author.Needs.{needs}
 use Rattle.le.specs.Arena.{arenaWords}
 use Rattle.machine.specs.Lists.{cnt}
-use Rattle.machine.specs.View.{sizeAt}
 use Rattle.machine.specs.declared.Audited.the-variants as A
+use Rattle.audit_walks.specs.Marks.{unmetMark}
 use Rattle.audit_walks.specs.TileTurn.{arena-length}
 use Rattle.audit.specs.MarkLaws.{unmet-inside, unmet-one, mark-less}
-use Rattle.audit.specs.ListTurn.{Out, In, lists-enter, list-skip, list-begin, list-met, list-unfit, list-turn, list-end-bad, list-leave, lists-done, kind-words}
+use Rattle.audit.specs.ListTurn.{Out, In, lists-enter, list-skip, list-begin, list-met, list-misplaced, list-turn, list-end-bad, list-leave, lists-done, kind-words, kind-numbered}
 use Rattle.audit.proofs.lists.list_fault.Statement.{statement}
 use Rattle.audit.proofs.lists.list_fault.Tie as tie
 
 abbrev Inv-loop : tie.InvT-loop
-Inv-loop a r m₀ fault₀ i j k v c₀ p₀ q₀ n₀ m fault c p q n = (length m ≡ length m₀) × (fault ≡ A.Sound) × (j < 200) × In (arenaWords a) r m k j p q n c
+Inv-loop a r m₀ fault₀ i j k v o c₀ p₀ q₀ n₀ m fault c p q n = (length m ≡ length m₀) × (fault ≡ A.Sound) × (j < 200) × In (arenaWords a) r m k j (p .0) q n (c .0)
 
 abbrev μ-loop : tie.MeasureT-loop
-μ-loop a r m₀ fault₀ i j k v c₀ p₀ q₀ n₀ m fault c p q n = cnt 1 m
+μ-loop a r m₀ fault₀ i j k v o c₀ p₀ q₀ n₀ m fault c p q n = cnt unmetMark m
 
 abbrev Inv-lists : tie.InvT-lists
 Inv-lists a r m₀ fault₀ i₀ m fault i = (length m ≡ length m₀) × (fault ≡ A.Sound) × (i ≤ 200) × Out (arenaWords a) r m i
@@ -40,102 +40,103 @@ kind-at-requires c κs = search needs
 mark-requires : tie.Need-mark-requires Inv-loop μ-loop Inv-lists μ-lists
 mark-requires c κs = search needs
 
+owned-by-requires : tie.Need-owned-by-requires Inv-loop μ-loop Inv-lists μ-lists
+owned-by-requires c κs =
+    let lt : c .before .before .before .skip .result < 200 = omega (arith, c .before .before .before .skip .ensures .high, c .before .before .if1 .left) in
+    kind-numbered _ _ (c .before .kind-at .ensures) lt
+
 head-requires : tie.Need-head-requires Inv-loop μ-loop Inv-lists μ-lists
 head-requires c κs =
-    let lt : c .before .before .before .skip .result < 200 = omega (arith, c .before .before .before .skip .ensures .high, c .before .before .if1 .left) in
-    (c .before .before .before .before .before .before .before .before .before .pre .1, kind-words _ _ (c .before .kind-at .ensures) lt .0)
+    let lt : c .before .before .before .before .skip .result < 200 = omega (arith, c .before .before .before .before .skip .ensures .high, c .before .before .before .if1 .left) in
+    (c .before .before .before .before .before .before .before .before .before .before .pre .1, kind-words _ _ (c .before .before .kind-at .ensures) lt .0)
 
 loop-holds : tie.Need-loop-holds Inv-loop μ-loop Inv-lists μ-lists
 loop-holds c =
-    let s = c .before .before .before .before .before .before .before .before .before .before in
-    let o = c .before .before .before .before .before .before .lists in
-    let k = c .before .before .before .before .skip .ensures in
+    let s = c .before .before .before .before .before .before .before .before .before .before .before in
+    let o = c .before .before .before .before .before .before .before .lists in
+    let k = c .before .before .before .before .before .skip .ensures in
     let w = arenaWords (s .args .a .now) in
-    let lt : c .before .before .before .before .skip .result < 200 = omega (arith, k .high, c .before .before .before .if1 .left) in
-    (refl, o .inv .1, lt, list-begin w (s .args .r .now) _ _ _ _ _ (c .before .before .kind-at .ensures) (c .head .ensures) lt (list-skip w (s .args .r .now) (o .m) (o .i) _ k (o .inv .3)))
+    let lt : c .before .before .before .before .before .skip .result < 200 = omega (arith, k .high, c .before .before .before .before .if1 .left) in
+    (refl, o .inv .1, lt, list-begin w (s .args .r .now) _ _ _ _ _ (c .before .before .before .kind-at .ensures) (c .head .ensures) lt (list-skip w (s .args .r .now) (o .m) (o .i) _ k (o .inv .3)))
 
 unmet-requires : tie.Need-unmet-requires Inv-loop μ-loop Inv-lists μ-lists
 unmet-requires c κs = search needs
 
-size-word-requires : tie.Need-size-word-requires Inv-loop μ-loop Inv-lists μ-lists
-size-word-requires c κs =
-    let s = c .before .before .before .before .before .before .before .before .before .before .before .before .before .before .before in
-    let l = c .before .before .before .before .loop in
+size-at-requires : tie.Need-size-at-requires Inv-loop μ-loop Inv-lists μ-lists
+size-at-requires c κs =
+    let s = c .before .before .before .before .before .before .before .before .before .before .before .before .before .before .before .before .before in
+    let l = c .before .before .before .before .before .loop in
     let w = arenaWords (s .args .a .now) in
     let len = arena-length (s .args .a .now) (s .pre .0 .arena) in
-    let un = sym (c .before .unmet .ensures) ∙ not-false _ (c .if2 .left) in
-    let j = unmet-inside w (l .m) _ _ (l .inv .3 .marks) (l .c) un in
-    (j .0, omega (arith, j .1, len))
+    let un = sym (c .before .unmet .ensures) ∙ not-false _ (c .if3 .left) in
+    let j = unmet-inside w (l .m) _ _ (l .inv .3 .marks) (l .c .0) un in
+    (omega (arith, j .0), omega (arith, j .1, len))
 
-size-requires : tie.Need-size-requires Inv-loop μ-loop Inv-lists μ-lists
-size-requires c κs = search needs
-
-fits-requires : tie.Need-fits-requires Inv-loop μ-loop Inv-lists μ-lists
-fits-requires c κs =
-    let s = c .before .before .before .before .before .before .before .before .before .before .before .before .before .before .before .before .before in
+may-stand-requires : tie.Need-may-stand-requires Inv-loop μ-loop Inv-lists μ-lists
+may-stand-requires c κs =
+    let s = c .before .before .before .before .before .before .before .before .before .before .before .before .before .before .before .before .before .before in
     let l = c .before .before .before .before .before .before .loop in
     let w = arenaWords (s .args .a .now) in
     let len = arena-length (s .args .a .now) (s .pre .0 .arena) in
-    let un = sym (c .before .before .before .unmet .ensures) ∙ not-false _ (c .before .before .if2 .left) in
-    let j = unmet-inside w (l .m) _ _ (l .inv .3 .marks) (l .c) un in
-    let e : c .size .result ≡ sizeAt w (l .c) = c .size .ensures ∙ ap (λ (x : ℕ). x / 16 * 16) (c .before .size-word .ensures) in
-    record { even = j .0; inside = omega (arith, j .1, len); size = e; before = l .inv .3 .sized }
+    let un = sym (c .before .before .unmet .ensures) ∙ not-false _ (c .before .if3 .left) in
+    let j = unmet-inside w (l .m) _ _ (l .inv .3 .marks) (l .c .0) un in
+    (record { even = j .0; inside = omega (arith, j .1, len); size = c .size-at .ensures; before = l .inv .3 .sized }, c .before .before .before .before .before .before .before .before .owned-by .ensures)
 
 slice-write-m : tie.Need-slice-write-m Inv-loop μ-loop Inv-lists μ-lists
 slice-write-m c =
-    let l = c .before .before .before .before .before .before .before .before .loop in
-    unmet-one (l .m) (l .c) (sym (c .before .before .before .before .before .unmet .ensures) ∙ not-false _ (c .before .before .before .before .if2 .left)) .1
+    let l = c .before .before .before .before .before .before .before .before .before .loop in
+    unmet-one (l .m) (l .c .0) (sym (c .before .before .before .before .before .unmet .ensures) ∙ not-false _ (c .before .before .before .before .if3 .left)) .1
 
 add-n : tie.Need-add-n Inv-loop μ-loop Inv-lists μ-lists
 add-n c =
-    let s = c .before .before .before .before .before .before .before .before .before .before .before .before .before .before .before .before .before .before .before in
-    let l = c .before .before .before .before .before .before .before .before .loop in
+    let s = c .before .before .before .before .before .before .before .before .before .before .before .before .before .before .before .before .before .before .before .before .before in
+    let l = c .before .before .before .before .before .before .before .before .before .loop in
     let len = arena-length (s .args .a .now) (s .pre .0 .arena) in
     omega (arith, l .inv .3 .few, len, s .pre .0 .arena .small)
 
-forward-requires : tie.Need-forward-requires Inv-loop μ-loop Inv-lists μ-lists
-forward-requires c κs =
-    let s = c .before .before .before .before .before .before .before .before .before .before .before .before .before .before .before .before .before .before .before in
-    let l = c .before .before .before .before .before .before .before .before .loop in
+fwd-at-requires : tie.Need-fwd-at-requires Inv-loop μ-loop Inv-lists μ-lists
+fwd-at-requires c κs =
+    let s = c .before .before .before .before .before .before .before .before .before .before .before .before .before .before .before .before .before .before .before .before .before in
+    let l = c .before .before .before .before .before .before .before .before .before .loop in
     let w = arenaWords (s .args .a .now) in
     let len = arena-length (s .args .a .now) (s .pre .0 .arena) in
-    let un = sym (c .before .before .before .before .before .unmet .ensures) ∙ not-false _ (c .before .before .before .before .if2 .left) in
-    let j = unmet-inside w (l .m) _ _ (l .inv .3 .marks) (l .c) un in
-    (j .0, omega (arith, j .1, len))
+    let un = sym (c .before .before .before .before .before .unmet .ensures) ∙ not-false _ (c .before .before .before .before .if3 .left) in
+    let j = unmet-inside w (l .m) _ _ (l .inv .3 .marks) (l .c .0) un in
+    (omega (arith, j .0), omega (arith, j .1, len))
 
 loop-less : tie.Need-loop-less Inv-loop μ-loop Inv-lists μ-lists
 loop-less c =
-    let l = c .before .before .before .before .before .before .before .before .before .loop in
-    mark-less (l .m) (l .c) _ (c .before .before .before .before .before .before .before .before .before .before .before .before .kind-at .result) (c .before .before .before .before .before .before .before .before .before .before .before .mark .ensures) (sym (c .before .before .before .before .before .before .unmet .ensures) ∙ not-false _ (c .before .before .before .before .before .if2 .left))
+    let l = c .before .before .before .before .before .before .before .before .before .before .loop in
+    mark-less (l .m) (l .c .0) _ (c .before .before .before .before .before .before .before .before .before .before .before .before .before .before .kind-at .result) (c .before .before .before .before .before .before .before .before .before .before .before .before .before .mark .ensures) (sym (c .before .before .before .before .before .before .unmet .ensures) ∙ not-false _ (c .before .before .before .before .before .if3 .left))
 
 loop-again : tie.Need-loop-again Inv-loop μ-loop Inv-lists μ-lists
 loop-again c =
-    let s = c .before .before .before .before .before .before .before .before .before .before .before .before .before .before .before .before .before .before .before .before in
-    let l = c .before .before .before .before .before .before .before .before .before .loop in
-    let w = arenaWords (s .args .a .now) in
-    let e : c .before .before .before .size .result ≡ sizeAt w (l .c) = c .before .before .before .size .ensures ∙ ap (λ (x : ℕ). x / 16 * 16) (c .before .before .before .before .size-word .ensures) in (
-      length-set {A = ℕ} (l .m) (l .c / 16) _ ∙ l .inv .0,
+    let s = c .before .before .before .before .before .before .before .before .before .before .before .before .before .before .before .before .before .before .before .before .before .before in
+    let l = c .before .before .before .before .before .before .before .before .before .before .loop in
+    let w = arenaWords (s .args .a .now) in (
+      length-set {A = ℕ} (l .m) (l .c .0 / 16) _ ∙ l .inv .0,
       l .inv .1,
       l .inv .2,
-      rw (c .forward .ensures, c .before .before .before .before .before .before .before .before .before .before .before .mark .ensures) (list-turn w (s .args .r .now) _ _ _ _ _ _ _ (l .inv .3) _ _ _ (c .before .before .before .before .before .before .before .before .loop-test .taken) (c .before .before .before .before .before .before .unmet .ensures) (not-false _ (c .before .before .before .before .before .if2 .left)) (c .before .before .fits2 .ensures) (not-false _ (c .before .if3 .left)) e),
+      rw (c .fwd-at .ensures, c .before .before .before .before .before .before .before .before .before .before .before .before .before .mark .ensures)
+          (list-turn w (s .args .r .now) _ _ _ _ _ _ _ (l .inv .3) _ _ _ (c .before .before .before .before .before .before .before .before .if2 .taken) (c .before .before .before .before .before .before .unmet .ensures) (not-false _ (c .before .before .before .before .before .if3 .left)) (c .before .before .before .may-stand .ensures) (not-false _ (c .before .before .if4 .left)) (c .before .before .before .before .size-at .ensures)),
     )
 
 may-end-requires : tie.Need-may-end-requires Inv-loop μ-loop Inv-lists μ-lists
-may-end-requires c κs = (c .before .before .before .before .before .before .before .before .before .before .before .before .pre .1, kind-words _ _ (c .before .before .before .before .kind-at .ensures) (c .before .loop .inv .2) .1)
+may-end-requires c κs = (c .before .before .before .before .before .before .before .before .before .before .before .before .before .before .pre .1, kind-words _ _ (c .before .before .before .before .before .before .kind-at .ensures) (c .before .before .loop .inv .2) .1)
 
 add-i : tie.Need-add-i Inv-loop μ-loop Inv-lists μ-lists
 add-i c = search needs
 
 lists-less : tie.Need-lists-less Inv-loop μ-loop Inv-lists μ-lists
-lists-less c = omega (arith, c .before .before .before .before .before .before .before .before .skip .ensures .low, c .before .before .before .loop .inv .2)
+lists-less c = omega (arith, c .before .before .before .before .before .before .before .before .before .before .skip .ensures .low, c .before .before .before .before .loop .inv .2)
 
 lists-again : tie.Need-lists-again Inv-loop μ-loop Inv-lists μ-lists
 lists-again c =
-    let s = c .before .before .before .before .before .before .before .before .before .before .before .before .before .before in
-    let l = c .before .before .before .loop in
+    let s = c .before .before .before .before .before .before .before .before .before .before .before .before .before .before .before .before in
+    let l = c .before .before .before .before .loop in
     let w = arenaWords (s .args .a .now) in
-    let o = c .before .before .before .before .before .before .before .before .before .before .lists in
-    (l .inv .0 ∙ o .inv .0, l .inv .1, omega (arith, l .inv .2), list-leave w (s .args .r .now) _ _ _ _ _ _ _ (l .inv .3) _ (c .before .before .loop-test .left) (c .before .may-end .ensures) (not-false _ (c .if4 .left)))
+    let o = c .before .before .before .before .before .before .before .before .before .before .before .before .lists in
+    (l .inv .0 ∙ o .inv .0, l .inv .1, omega (arith, l .inv .2), list-leave w (s .args .r .now) _ _ _ _ _ _ _ (l .inv .3) _ (c .before .before .if2 .left) (c .before .may-end .ensures) (not-false _ (c .if5 .left)))
 
 same-length : tie.Need-same-length Inv-loop μ-loop Inv-lists μ-lists
 same-length c = c .before .lists .inv .0
@@ -157,34 +158,34 @@ returns-2 c =
     rw (o .inv .1) (lists-done w (s .args .r .now) (o .m) _ (omega (arith, c .if1 .taken)) (c .before .skip .ensures .high) (list-skip w (s .args .r .now) (o .m) (o .i) _ (c .before .skip .ensures) (o .inv .3)))
 
 same-length-3 : tie.Need-same-length-3 Inv-loop μ-loop Inv-lists μ-lists
-same-length-3 c = c .before .before .before .before .loop .inv .0 ∙ c .before .before .before .before .before .before .before .before .before .before .before .lists .inv .0
+same-length-3 c = c .before .before .before .before .before .loop .inv .0 ∙ c .before .before .before .before .before .before .before .before .before .before .before .before .before .lists .inv .0
 
 returns-3 : tie.Need-returns-3 Inv-loop μ-loop Inv-lists μ-lists
 returns-3 c =
-    let s = c .before .before .before .before .before .before .before .before .before .before .before .before .before .before .before in
-    let l = c .before .before .before .before .loop in
+    let s = c .before .before .before .before .before .before .before .before .before .before .before .before .before .before .before .before .before in
+    let l = c .before .before .before .before .before .loop in
     let w = arenaWords (s .args .a .now) in
-    list-met w (s .args .r .now) _ _ _ _ _ _ _ (l .inv .3) _ _ (c .before .before .before .loop-test .taken) (c .before .unmet .ensures) (not-true _ (c .if2 .taken))
+    list-met w (s .args .r .now) _ _ _ _ _ _ _ (l .inv .3) _ _ (c .before .before .before .if2 .taken) (c .before .unmet .ensures) (not-true _ (c .if3 .taken))
 
 same-length-4 : tie.Need-same-length-4 Inv-loop μ-loop Inv-lists μ-lists
-same-length-4 c = c .before .before .before .before .before .before .before .before .loop .inv .0 ∙ c .before .before .before .before .before .before .before .before .before .before .before .before .before .before .before .lists .inv .0
+same-length-4 c = c .before .before .before .before .before .before .before .before .loop .inv .0 ∙ c .before .before .before .before .before .before .before .before .before .before .before .before .before .before .before .before .lists .inv .0
 
 returns-4 : tie.Need-returns-4 Inv-loop μ-loop Inv-lists μ-lists
 returns-4 c =
-    let s = c .before .before .before .before .before .before .before .before .before .before .before .before .before .before .before .before .before .before .before in
+    let s = c .before .before .before .before .before .before .before .before .before .before .before .before .before .before .before .before .before .before .before .before in
     let l = c .before .before .before .before .before .before .before .before .loop in
     let w = arenaWords (s .args .a .now) in
-    list-unfit w (s .args .r .now) _ _ _ _ _ _ _ (l .inv .3) _ _ _ (c .before .before .before .before .before .before .before .loop-test .taken) (c .before .before .before .before .before .unmet .ensures) (not-false _ (c .before .before .before .before .if2 .left)) (c .before .fits2 .ensures) (not-true _ (c .if3 .taken))
+    list-misplaced w (s .args .r .now) _ _ _ _ _ _ _ (l .inv .3) _ _ _ (c .before .before .before .before .before .before .if2 .taken) (c .before .before .before .before .unmet .ensures) (not-false _ (c .before .before .before .if3 .left)) (c .before .may-stand .ensures) (not-true _ (c .if4 .taken))
 
 same-length-5 : tie.Need-same-length-5 Inv-loop μ-loop Inv-lists μ-lists
-same-length-5 c = c .before .before .before .loop .inv .0 ∙ c .before .before .before .before .before .before .before .before .before .before .lists .inv .0
+same-length-5 c = c .before .before .before .before .loop .inv .0 ∙ c .before .before .before .before .before .before .before .before .before .before .before .before .lists .inv .0
 
 returns-5 : tie.Need-returns-5 Inv-loop μ-loop Inv-lists μ-lists
 returns-5 c =
-    let s = c .before .before .before .before .before .before .before .before .before .before .before .before .before .before in
-    let l = c .before .before .before .loop in
+    let s = c .before .before .before .before .before .before .before .before .before .before .before .before .before .before .before .before in
+    let l = c .before .before .before .before .loop in
     let w = arenaWords (s .args .a .now) in
-    list-end-bad w (s .args .r .now) _ _ _ _ _ _ _ (l .inv .3) _ _ (c .before .before .loop-test .left) (c .before .may-end .ensures) (not-true _ (c .if4 .taken))
+    list-end-bad w (s .args .r .now) _ _ _ _ _ _ _ (l .inv .3) _ _ (c .before .before .if2 .left) (c .before .may-end .ensures) (not-true _ (c .if5 .taken))
 
 pub list-fault-spec : {M : Type 1} → statement M
 list-fault-spec =
@@ -198,15 +199,15 @@ list-fault-spec =
     skip-requires
     kind-at-requires
     mark-requires
+    owned-by-requires
     head-requires
     loop-holds
     unmet-requires
-    size-word-requires
-    size-requires
-    fits-requires
+    size-at-requires
+    may-stand-requires
     slice-write-m
     add-n
-    forward-requires
+    fwd-at-requires
     loop-less
     loop-again
     may-end-requires

@@ -2,7 +2,7 @@
 use native.Mathlib.Omega.{arith}
 use borrow.Author.Tests.{lt-ltb, le-ltb}
 use borrow.Author.Needs.{needs}
-use Rattle.audit_walks.specs.Leaves.{wordOk}
+use Rattle.audit_walks.specs.TileWord.{wordOk}
 use Rattle.sizes.specs.SizeWord.{lowOfWord}
 use Rattle.audit_walks.proofs.tiles.tile_ok.Statement.{statement}
 use Rattle.audit_walks.proofs.tiles.tile_ok.Tie as tie

@@ -60,17 +60,4 @@ returns c =
 pub fill-spec : {M : Type 1} → statement M
 fill-spec =
     tie.close
-    (tie.spec
-    Inv-loop
-    μ-loop
-    slice-write-r
-    slice-write-r-2
-    loop-holds
-    add-r
-    mul-r
-    slice-write-r-3
-    add-k
-    loop-less
-    loop-again
-    same-length
-    returns)
+    (tie.spec Inv-loop μ-loop slice-write-r slice-write-r-2 loop-holds add-r mul-r slice-write-r-3 add-k loop-less loop-again same-length returns)

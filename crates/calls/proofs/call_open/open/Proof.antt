@@ -73,21 +73,4 @@ returns-3 c =
 pub open-spec : {M : Type 1} → statement M
 open-spec =
     tie.close
-    (tie.spec
-    returns
-    allowed-requires
-    slice-aggregate-fill
-    fill-requires
-    slice-aggregate-write-words
-    write-words-requires
-    same-length
-    returns-2
-    slice-aggregate-fill-2
-    cast-fill
-    fill-requires-2
-    slice-aggregate-write-words-2
-    write-words-requires-2
-    set-size-requires
-    same-length-2
-    same-length-3
-    returns-3)
+    (tie.spec returns allowed-requires slice-aggregate-fill fill-requires slice-aggregate-write-words write-words-requires same-length returns-2 slice-aggregate-fill-2 cast-fill fill-requires-2 slice-aggregate-write-words-2 write-words-requires-2 set-size-requires same-length-2 same-length-3 returns-3)

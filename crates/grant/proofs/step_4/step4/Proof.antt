@@ -32,12 +32,4 @@ returns-3 c = none4 (c .before .before .before .before .before .before .args .b)
 pub step4-spec : {M : Type 1} → statement M
 step4-spec =
     tie.close
-    (tie.spec
-    returns
-    any-fast-requires
-    consolidate-requires
-    same-length
-    same-length-2
-    returns-2
-    same-length-3
-    returns-3)
+    (tie.spec returns any-fast-requires consolidate-requires same-length same-length-2 returns-2 same-length-3 returns-3)

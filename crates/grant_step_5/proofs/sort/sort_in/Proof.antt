@@ -31,11 +31,11 @@ place-requires c κs =
 
 link-in-requires : tie.Need-link-in-requires
 link-in-requires c κs =
-    let p = c .before .before .before .before .before .before .before .before .before .pre in
-    let j = c .before .before .before .before .before .before .bin-of .ensures in (
+    let p = c .before .before .before .before .before .before .before .before .before .before .before .pre in
+    let j = c .before .before .before .before .before .before .before .before .bin-of .ensures in (
       omega (arith, j .0, own-low _ _ _ _ _ (p .ok) (p .holds .0) (p .holds .1)),
       j .1,
-      record { heap = p .heap; ok = p .ok; holds = (p .holds .0, record { xs = _; ys = _; gap = c .before .before .place .ensures (p .heap) (p .ok) }) },
+      record { heap = p .heap; ok = p .ok; holds = (p .holds .0, record { xs = _; ys = _; gap = c .before .before .before .before .place .ensures (p .heap) (p .ok) }) },
     )
 
 same-length-3 : tie.Need-same-length-3
@@ -45,19 +45,9 @@ same-length-4 : tie.Need-same-length-4
 same-length-4 c = search needs
 
 returns-2 : tie.Need-returns-2
-returns-2 c = record { does = λ h o k. sort-large-gave h _ _ _ _ _ _ _ o (k .0) (k .1) (c .before .before .before .before .before .before .before .before .before .before .before .bin-of .ensures .0) (c .before .before .before .before .before .before .before .before .before .before .if1 .left) _ _ (c .before .before .before .before .before .before .before .place .ensures) (c .before .before .before .before .link-in .ensures) }
+returns-2 c = record { does = λ h o k. sort-large-gave h _ _ _ _ _ _ _ o (k .0) (k .1) (c .before .before .before .before .before .before .before .before .before .before .before .before .before .bin-of .ensures .0) (c .before .before .before .before .before .before .before .before .before .before .before .before .if1 .left) _ _ (c .before .before .before .before .before .before .before .before .before .place .ensures) (c .before .before .before .before .link-in .ensures) }
 
 pub sort-in-spec : {M : Type 1} → statement M
 sort-in-spec =
     tie.close
-    (tie.spec
-    bin-of-requires
-    put-first-requires
-    same-length
-    same-length-2
-    returns
-    place-requires
-    link-in-requires
-    same-length-3
-    same-length-4
-    returns-2)
+    (tie.spec bin-of-requires put-first-requires same-length same-length-2 returns place-requires link-in-requires same-length-3 same-length-4 returns-2)

@@ -105,25 +105,4 @@ returns-2 c =
 pub move-fast-spec : {M : Type 1} → statement M
 move-fast-spec =
     tie.close
-    (tie.spec
-    Inv-loop
-    μ-loop
-    fast-list-requires
-    cache-list-requires
-    loop-holds
-    add-if1
-    mul-if1
-    slice-read-if1
-    add-if2
-    mul-if2
-    slice-read-if2
-    same-length
-    same-length-2
-    returns
-    take-fast-requires
-    push-cache-requires
-    loop-less
-    loop-again
-    same-length-3
-    same-length-4
-    returns-2)
+    (tie.spec Inv-loop μ-loop fast-list-requires cache-list-requires loop-holds add-if1 mul-if1 slice-read-if1 add-if2 mul-if2 slice-read-if2 same-length same-length-2 returns take-fast-requires push-cache-requires loop-less loop-again same-length-3 same-length-4 returns-2)

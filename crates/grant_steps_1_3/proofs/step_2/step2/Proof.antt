@@ -41,9 +41,9 @@ move-fast-requires c κs =
 
 cast-t10 : tie.Need-cast-t10
 cast-t10 c =
-    let i = c .before .before .before .before .before .before .before .before .before .before .before .before .before .before .before in
+    let i = c .before .before .before .before .before .before .before .before .before .before .before .before .before .before .before .before in
     let s = i .before .before .before in
-    record { fits = omega (arith, small2 (s .args .b) _ (s .pre .0) (s .pre .1) (i .if1 .left) (c .before .before .before .before .before .before .before .before .before .before .before .before .before .before .fast-list .ensures .0) _ _ (c .before .before .before .before .before .before .before .before .before .before .before .before .if2 .left) _ _ (c .before .before .before .before .before .before .before .before .before .take-fast .ensures) (s .pre .3)) }
+    record { fits = omega (arith, small2 (s .args .b) _ (s .pre .0) (s .pre .1) (i .if1 .left) (c .before .before .before .before .before .before .before .before .before .before .before .before .before .before .before .fast-list .ensures .0) _ _ (c .before .before .before .before .before .before .before .before .before .before .before .before .before .if2 .left) _ _ (c .before .before .before .before .before .before .before .before .before .before .take-fast .ensures) (s .pre .3)) }
 
 same-length : tie.Need-same-length
 same-length c = search needs
@@ -53,23 +53,11 @@ same-length-2 c = search needs
 
 returns-3 : tie.Need-returns-3
 returns-3 c =
-    let i = c .before .before .before .before .before .before .before .before .before .before .before .before .before .before .before in
+    let i = c .before .before .before .before .before .before .before .before .before .before .before .before .before .before .before .before in
     let s = i .before .before .before in
-    took2 (s .args .b) _ (s .pre .0) (s .pre .1) (i .if1 .left) (c .before .before .before .before .before .before .before .before .before .before .before .before .before .before .fast-list .ensures .0) _ _ (c .before .before .before .before .before .before .before .before .before .before .before .before .if2 .left) _ _ (c .before .before .before .before .before .before .before .before .before .take-fast .ensures) _ _ (c .before .before .before .before .move-fast .ensures)
+    took2 (s .args .b) _ (s .pre .0) (s .pre .1) (i .if1 .left) (c .before .before .before .before .before .before .before .before .before .before .before .before .before .before .before .fast-list .ensures .0) _ _ (c .before .before .before .before .before .before .before .before .before .before .before .before .before .if2 .left) _ _ (c .before .before .before .before .before .before .before .before .before .before .take-fast .ensures) _ _ (c .before .before .before .before .before .move-fast .ensures)
 
 pub step2-spec : {M : Type 1} → statement M
 step2-spec =
     tie.close
-    (tie.spec
-    returns
-    fast-list-requires
-    add-if2
-    mul-if2
-    slice-read-if2
-    returns-2
-    take-fast-requires
-    move-fast-requires
-    cast-t10
-    same-length
-    same-length-2
-    returns-3)
+    (tie.spec returns fast-list-requires add-if2 mul-if2 slice-read-if2 returns-2 take-fast-requires move-fast-requires cast-t10 same-length same-length-2 returns-3)

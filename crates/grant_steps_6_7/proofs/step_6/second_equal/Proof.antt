@@ -11,12 +11,12 @@ use Rattle.grant_steps_6_7.proofs.step_6.second_equal.Statement.{statem
 use Rattle.grant_steps_6_7.proofs.step_6.second_equal.Tie as tie
 
 abbrev Inv-loop : tie.InvT-loop
-Inv-loop a c z second₀ first₀ before₀ second first before = Walking (arenaWords a) c second first before
+Inv-loop a z second₀ first₀ before₀ second first before = Walking (arenaWords a) (second₀ .0) (second .0) (first .0) (before .0)
 
 abbrev μ-loop : tie.MeasureT-loop
-μ-loop a c z second₀ first₀ before₀ second first before = left (arenaWords a) before
+μ-loop a z second₀ first₀ before₀ second first before = left (arenaWords a) (before .0)
 
-inside : (c : tie.Start Inv-loop μ-loop) → Inside (length (now (c .args .a))) (c .args .c)
+inside : (c : tie.Start Inv-loop μ-loop) → Inside (length (now (c .args .a))) (c .args .c .0)
 inside c = let p = c .pre in stand-inside (p .heap) _ (p .shape) (p .mem) (p .holds .bin-no) _ (p .holds .xs) (p .holds .ys) (p .holds .stands)
 
 size-at-requires : tie.Need-size-at-requires Inv-loop μ-loop
@@ -92,17 +92,4 @@ returns-2 c =
 pub second-equal-spec : {M : Type 1} → statement M
 second-equal-spec =
     tie.close
-    (tie.spec
-    Inv-loop
-    μ-loop
-    size-at-requires
-    back-at-requires
-    equal-at-requires
-    returns
-    back-at-requires-2
-    loop-holds
-    equal-at-requires-2
-    back-at-requires-3
-    loop-less
-    loop-again
-    returns-2)
+    (tie.spec Inv-loop μ-loop size-at-requires back-at-requires equal-at-requires returns back-at-requires-2 loop-holds equal-at-requires-2 back-at-requires-3 loop-less loop-again returns-2)

@@ -50,19 +50,10 @@ loop-again c =
 returns-2 : tie.Need-returns-2 Inv-loop μ-loop
 returns-2 c = let l = c .before in seek-end _ (l .before .before .args .j) (l .loop .i) (omega (arith, c .loop-test .left)) (l .loop .inv .2)
 
+cast-t9 : tie.Need-cast-t9 Inv-loop μ-loop
+cast-t9 c = record { fits = omega arith }
+
 pub first-bin-spec : {M : Type 1} → statement M
 first-bin-spec =
     tie.close
-    (tie.spec
-    Inv-loop
-    μ-loop
-    add-i
-    loop-holds
-    bin-last-requires
-    mul-if1
-    shared-slice-read-if1
-    returns
-    add-i-2
-    loop-less
-    loop-again
-    returns-2)
+    (tie.spec Inv-loop μ-loop add-i loop-holds bin-last-requires mul-if1 shared-slice-read-if1 cast-t9 returns add-i-2 loop-less loop-again returns-2)
