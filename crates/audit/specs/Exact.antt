@@ -22,7 +22,7 @@ use Rattle.machine.specs.declared.ListKind.{ListKind}
 use Rattle.machine.specs.declared.ListKind.the-variants.{Cache, Fast, Bin}
 use Rattle.machine.specs.declared.Audited.the-variants as A
 use Rattle.sound.specs.Relation.{Mem, Homes, Good, Sound, chain, links, falls, stackSize}
-use Rattle.sound.specs.Tiles.{lt-or-le, fits-split, fits-join, Start, start, tiles-split, tiles-join}
+use Rattle.sound.specs.Tiles.{lt-or-le, tiled-split, tiled-join, Start, start, tiles-split, tiles-join}
 use Rattle.sound.specs.Lists.{links-chain}
 use Rattle.sound.specs.Homes.{falls-cong}
 use Rattle.sound.specs.RecordOf.{Recorded, record-words, record-ext}
@@ -86,7 +86,7 @@ module _ (h : Heap) (own : (x : ℕ) → total x h ≤ cnt x (starts h)) where
 -- ---- from the tests to the relation
 module _ (h : Heap) (w r : List ℕ) (a : 8 * length w ≤ 262144) (s : Spelled h w r) where
   size-of : (x : ℕ) → 1 ≤ cnt x (starts h) → sizeAt w x ≡ sizeOf h x
-  size-of x m = size-at w 0 (h .tiles) x (s .tiles .fit) (s .tiles .words) m
+  size-of x m = size-at w 0 (h .tiles) x (s .tiles .sizes) (s .tiles .words) m
 
   small : (x : ℕ) → 1 ≤ cnt x (starts h) → x < 262144
   small = chunk-small h w r a s
@@ -149,7 +149,7 @@ module _ (h : Heap) (w r : List ℕ) (a : 8 * length w ≤ 262144) (s : Spelled 
   spelled-good = record {
     shape = record {
       small = omega (arith, s .long);
-      fit = fits-join (h .tiles) (tile (topSize h) 1 0 ∷ []) (s .tiles .fit)
+      sizes = tiled-join (h .tiles) (tile (topSize h) 1 0 ∷ []) (s .tiles .sizes)
           (subst (λ (n : ℕ). n % 16 ≡ 0) (sym top-size) (omega arith), omega (arith, s .tiles .least, s .tiles .top, s .long), omega arith, tt);
       stacked74 = s .stacked;
       binned127 = s .bins;
@@ -193,11 +193,11 @@ module _ (h : Heap) (w r : List ℕ) (s : Sound h w r) where
 
   tiled : TilesOk w 0 (h .tiles) × (lowAt w (topOf h) ≡ 1)
   tiled =
-      let f = fits-split (h .tiles) (tile (topSize h) 1 0 ∷ []) (s .good .shape .fit) in
+      let f = tiled-split (h .tiles) (tile (topSize h) 1 0 ∷ []) (s .good .shape .sizes) in
       let t = tiles-split w 0 (h .tiles) (tile (topSize h) 1 0 ∷ []) (s .mem .words) in
       let q = one-tile w (topOf h) (topSize h) 1 (f .1 .0) (omega arith) (t .1 .0) in (
         record {
-          fit = f .0;
+          sizes = f .0;
           words = t .0;
           notes = flags-noted (λ x. binned h x) 0 0 0 (h .tiles) (tile (topSize h) 1 0 ∷ []) (s .good .flag);
           low = omega (arith, q .1);
@@ -208,12 +208,12 @@ module _ (h : Heap) (w r : List ℕ) (s : Sound h w r) where
       )
 
   size-was : (x : ℕ) → 1 ≤ cnt x (starts h) → sizeAt w x ≡ sizeOf h x
-  size-was x m = size-at w 0 (h .tiles) x (tiled .0 .fit) (tiled .0 .words) m
+  size-was x m = size-at w 0 (h .tiles) x (tiled .0 .sizes) (tiled .0 .words) m
 
   within : (x : ℕ) → 1 ≤ cnt x (starts h) → x < 262144
   within x m =
       let k = tiled .0 in
-      let b : Start (h .tiles) 0 x = start (h .tiles) 0 x (k .fit) m in
+      let b : Start (h .tiles) 0 x = start (h .tiles) 0 x (k .sizes) m in
       omega (arith, k .top, k .least, s .mem .long, s .good .shape .small)
 
   stacks-in : (k x : ℕ) → 1 ≤ cnt x (stack h k) → 1 ≤ cnt x (starts h)

@@ -15,8 +15,8 @@ use Rattle.machine.specs.Heap.{Tile, tile, Heap, stack, bin, binned, starts, st
 use Rattle.machine.specs.View.{view}
 use Rattle.machine.specs.Audit.{auditOf}
 use Rattle.machine.specs.declared.Audited.the-variants as A
-use Rattle.sound.specs.Relation.{Sound, Loose, fits, tilesAt, flags}
-use Rattle.sound.specs.Tiles.{fits-split, end-le, end-even, Start, start, starts-once, tiles-split, tiles-join}
+use Rattle.sound.specs.Relation.{Sound, Loose, tiled, tilesAt, flags}
+use Rattle.sound.specs.Tiles.{tiled-split, end-le, end-even, Start, start, starts-once, tiles-split, tiles-join}
 use Rattle.sound.specs.Frames.{chain-cong, links-cong}
 use Rattle.audit.specs.Exact.{audit-read, audit-complete}
 
@@ -39,13 +39,13 @@ since-later o x t ts n = rw (ne-eqb o x (λ e. n (sym e)), since)
 later : (o x : ℕ) (t : Tile) (ts : List Tile) → (x ≡ o → ⊥) → 1 ≤ cnt x (startsFrom o (t ∷ ts)) → 1 ≤ cnt x (startsFrom (o + t .size) ts)
 later o x t ts n m = omega (arith, ind-other x o n)
 
-size-even : (ts : List Tile) (o c : ℕ) → fits ts → hdSize (since o c ts) % 16 ≡ 0
+size-even : (ts : List Tile) (o c : ℕ) → tiled ts → hdSize (since o c ts) % 16 ≡ 0
 size-even [] o c f = refl
 size-even (t ∷ ts) o c f =
     ⊎-elim (λ e. rw (since-here o c t ts e) (f .0)) (λ n. rw (since-later o c t ts n) (size-even ts (o + t .size) c (f .3))) (eq? c o)
 
 -- x is a tile's start, or their end
-tiles-apart : (ts : List Tile) (o c x : ℕ) → o % 16 ≡ 0 → fits ts → 1 ≤ cnt c (startsFrom o ts) → (1 ≤ cnt x (startsFrom o ts)) ⊎ (x ≡ endFrom o ts)
+tiles-apart : (ts : List Tile) (o c x : ℕ) → o % 16 ≡ 0 → tiled ts → 1 ≤ cnt c (startsFrom o ts) → (1 ≤ cnt x (startsFrom o ts)) ⊎ (x ≡ endFrom o ts)
     → (x ≤ c) ⊎ (c + hdSize (since o c ts) ≤ x)
 tiles-apart [] o c x e f m n = absurd (not-suc-le-zero m)
 tiles-apart (t ∷ ts) o c x e f m n =
@@ -65,7 +65,7 @@ tiles-apart (t ∷ ts) o c x e f m n =
     first i = rw (since-here o c t ts i) (⊎-elim (λ j. inl (omega arith)) (λ j. inr (⊎-elim (λ k. omega (arith, beyond x j k)) (λ k. omega (arith, end-le (o + t .size) ts)) n)) (eq? x o))
 
 -- a tile whose P is clear stands behind a binned one
-clear-behind : (b : ℕ → ℕ) (o q s : ℕ) (ts us : List Tile) (c : ℕ) → o % 16 ≡ 0 → fits ts → flags b o q s (ts ++ us) → 1 ≤ cnt c (startsFrom o ts)
+clear-behind : (b : ℕ → ℕ) (o q s : ℕ) (ts us : List Tile) (c : ℕ) → o % 16 ≡ 0 → tiled ts → flags b o q s (ts ++ us) → 1 ≤ cnt c (startsFrom o ts)
     → hdP (since o (c + hdSize (since o c ts)) ts) ≡ 0 → b c ≡ 1
 clear-behind b o q s [] us c e f g m z = absurd (not-suc-le-zero m)
 clear-behind b o q s (t ∷ ts) us c e f g m z =
@@ -88,7 +88,7 @@ clear-behind b o q s (t ∷ ts) us c e f g m z =
         rw i (next ts (g .3) (sym (ap hdP (since-later o (o + t .size) t ts (λ n. omega (arith, f .1)))) ∙ y))
 
 -- ---- the frame of the tiles
-tilesAt-same : (w v : List ℕ) (o : ℕ) (ts : List Tile) → o % 16 ≡ 0 → fits ts → ((x : ℕ) → 1 ≤ cnt x (startsFrom o ts) → getD v (sizeWord x) 0 ≡ getD w (sizeWord x) 0)
+tilesAt-same : (w v : List ℕ) (o : ℕ) (ts : List Tile) → o % 16 ≡ 0 → tiled ts → ((x : ℕ) → 1 ≤ cnt x (startsFrom o ts) → getD v (sizeWord x) 0 ≡ getD w (sizeWord x) 0)
     → ((x : ℕ) → 1 ≤ cnt x (startsFrom o ts) → hdP (since o x ts) ≡ 0 → getD v (prevWord x) 0 ≡ getD w (prevWord x) 0) → tilesAt w o ts → tilesAt v o ts
 tilesAt-same w v o [] e f a b k = tt
 tilesAt-same w v o (t ∷ ts) e f a b k =
@@ -104,30 +104,30 @@ tilesAt-same w v o (t ∷ ts) e f a b k =
     )
 
 module _ (h : Heap) (w v r : List ℕ) (s : Sound h w r) (a : Agrees h w v) where
-  fit : fits (h .tiles)
-  fit = fits-split (h .tiles) (tile (topSize h) 1 0 ∷ []) (s .good .shape .fit) .0
+  whole : tiled (h .tiles)
+  whole = tiled-split (h .tiles) (tile (topSize h) 1 0 ∷ []) (s .good .shape .sizes) .0
 
   -- a live block is a chunk of a size that is a multiple of 16, and in no list
   live : (c : ℕ) → Loose h c → Start (h .tiles) 0 c × (sizeOf h c % 16 ≡ 0) × (total c h ≡ 0) × (1 ≤ cnt c (starts h))
   live c l =
       let m : 1 ≤ cnt c (starts h) = omega (arith, l) in
-      (start (h .tiles) 0 c fit m, size-even (h .tiles) 0 c fit, omega (arith, l, starts-once (h .tiles) 0 c fit), m)
+      (start (h .tiles) 0 c whole m, size-even (h .tiles) 0 c whole, omega (arith, l, starts-once (h .tiles) 0 c whole), m)
 
   size-word : (x : ℕ) → x % 16 ≡ 0 → (1 ≤ cnt x (starts h)) ⊎ (x ≡ topOf h) → getD v (sizeWord x) 0 ≡ getD w (sizeWord x) 0
   size-word x e m = a .same (sizeWord x) (λ c u.
       let l = live c (u .0) in
-      ⊎-elim (λ i. omega (arith, l .0 .even, u .1)) (λ i. omega (arith, l .0 .even, l .1, u .2)) (tiles-apart (h .tiles) 0 c x refl fit (l .3) m))
+      ⊎-elim (λ i. omega (arith, l .0 .even, u .1)) (λ i. omega (arith, l .0 .even, l .1, u .2)) (tiles-apart (h .tiles) 0 c x refl whole (l .3) m))
 
   prev-word : (x : ℕ) → 1 ≤ cnt x (starts h) → hdP (since 0 x (h .tiles)) ≡ 0 → getD v (prevWord x) 0 ≡ getD w (prevWord x) 0
   prev-word x m z = a .same (prevWord x) (λ c u.
       let l = live c (u .0) in
-      let k : Start (h .tiles) 0 x = start (h .tiles) 0 x fit m in
+      let k : Start (h .tiles) 0 x = start (h .tiles) 0 x whole m in
       ⊎-elim (λ i. omega (arith, l .0 .even, k .even, u .1))
       (λ i.
       let e : x ≡ c + sizeOf h c = omega (arith, l .0 .even, l .1, k .even, u .2) in
       let y : hdP (since 0 (c + sizeOf h c) (h .tiles)) ≡ 0 = rw e at z in
-      omega (arith, l .2, clear-behind (λ x. binned h x) 0 0 0 (h .tiles) (tile (topSize h) 1 0 ∷ []) c refl fit (s .good .flag) (l .3) y))
-      (tiles-apart (h .tiles) 0 c x refl fit (l .3) (inl m)))
+      omega (arith, l .2, clear-behind (λ x. binned h x) 0 0 0 (h .tiles) (tile (topSize h) 1 0 ∷ []) c refl whole (s .good .flag) (l .3) y))
+      (tiles-apart (h .tiles) 0 c x refl whole (l .3) (inl m)))
 
   -- the links of a chunk that is in a list
   link-words : (x : ℕ) → 1 ≤ total x h → (getD v (fwdWord x) 0 ≡ getD w (fwdWord x) 0) × (getD v (backWord x) 0 ≡ getD w (backWord x) 0)
@@ -140,7 +140,7 @@ module _ (h : Heap) (w v r : List ℕ) (s : Sound h w r) (a : Agrees h w v) wher
       m = omega (arith, n, s .good .shape .own x)
 
       k : Start (h .tiles) 0 x
-      k = start (h .tiles) 0 x fit m
+      k = start (h .tiles) 0 x whole m
 
       clash : (c : ℕ) {i : ℕ} → Usable h c i → c / 8 ≤ x / 8 → x / 8 + 2 ≤ (c + sizeOf h c) / 8 → ⊥
       clash c u low high =
@@ -148,7 +148,7 @@ module _ (h : Heap) (w v r : List ℕ) (s : Sound h w r) (a : Agrees h w v) wher
           ⊎-elim
           (λ i. let e : x ≡ c = omega (arith, l .0 .even, k .even) in omega (arith, n, l .2, ap (λ (y : ℕ). total y h) e))
           (λ i. omega (arith, l .0 .even, l .1, k .even))
-          (tiles-apart (h .tiles) 0 c x refl fit (l .3) (inl m))
+          (tiles-apart (h .tiles) 0 c x refl whole (l .3) (inl m))
 
   bin-words : (x j : ℕ) → 1 ≤ cnt x (bin h j) → (getD v (fwdWord x) 0 ≡ getD w (fwdWord x) 0) × (getD v (backWord x) 0 ≡ getD w (backWord x) 0)
   bin-words x j m = link-words x (omega (arith, m, cnt-le-all x (h .bins) j))
@@ -159,8 +159,8 @@ module _ (h : Heap) (w v r : List ℕ) (s : Sound h w r) (a : Agrees h w v) wher
     mem = record {
       long = ap (λ (n : ℕ). 8 * n) (a .long) ∙ s .mem .long;
       words = tiles-join v 0 (h .tiles) (tile (topSize h) 1 0 ∷ [])
-          (tilesAt-same w v 0 (h .tiles) refl fit (λ x m. size-word x (start (h .tiles) 0 x fit m .even) (inl m)) prev-word (t .0))
-          (size-word (topOf h) (end-even 0 (h .tiles) refl fit) (inr refl) ∙ t .1 .0, λ z. absurd (omega (arith, z)), tt);
+          (tilesAt-same w v 0 (h .tiles) refl whole (λ x m. size-word x (start (h .tiles) 0 x whole m .even) (inl m)) prev-word (t .0))
+          (size-word (topOf h) (end-even 0 (h .tiles) refl whole) (inr refl) ∙ t .1 .0, λ z. absurd (omega (arith, z)), tt);
       chains = λ k. chain-cong w v (stack h k) (λ x m. link-words x (omega (arith, m, cnt-le-all x (h .stacks) k)) .0) (s .mem .chains k);
       blinks = λ j. links-cong w v _ (bin h j) _ (λ x m. bin-words x j m .0) (λ x m. bin-words x j m .1) (s .mem .blinks j);
     };

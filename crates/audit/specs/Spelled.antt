@@ -106,8 +106,8 @@ audit-spelled w r e =
     let l = listsOf-sound w r (starts h) (few w (h .tiles) (t .0)) (sym (ap (listFault w r 0 (starts h)) v) ∙ e₃ .0) in
     let own : (x : ℕ) → total x h ≤ cnt x (starts h) = λ x. omega (arith, l .1 x, total-lists x h refl, ap (cntAll x) v) in
     let f = flags-sound (binned h) (tileAt w (topOf h)) (topSize h) 0 0 0 (h .tiles)
-    (λ x. omega (arith, own x, starts-once (h .tiles) 0 x (t .0 .fit)))
-    (omega (arith, own (topOf h), end-no-start (h .tiles) 0 (t .0 .fit))) (omega arith) (t .0 .notes) (e₃ .1) in
+    (λ x. omega (arith, own x, starts-once (h .tiles) 0 x (t .0 .sizes)))
+    (omega (arith, own (topOf h), end-no-start (h .tiles) 0 (t .0 .sizes))) (omega arith) (t .0 .notes) (e₃ .1) in
     record {
       len = eqb-true (getD r lengthWord 0) (8 * length w) (sound-if (eqb (getD r lengthWord 0) (8 * length w)) A.Sound A.Record refl (e₁ .0) .0);
       long = refl;
@@ -126,7 +126,7 @@ audit-spelled w r e =
 -- ---- a heap that is spelled is the one that is read
 pub chunk-small : (h : Heap) (w r : List ℕ) → 8 * length w ≤ 262144 → Spelled h w r → (x : ℕ) → 1 ≤ cnt x (starts h) → x < 262144
 chunk-small h w r a s x m =
-    let b : Start (h .tiles) 0 x = start (h .tiles) 0 x (s .tiles .fit) m in
+    let b : Start (h .tiles) 0 x = start (h .tiles) 0 x (s .tiles .sizes) m in
     omega (arith, s .tiles .top, s .tiles .least)
 
 cons-first : (bs : List (List ℕ)) → 1 ≤ length bs → getD bs 0 [] ≡ [] → [] ∷ drop 1 bs ≡ bs

@@ -88,7 +88,7 @@ module _ (w r : List ℕ) where
       let c = listsOf-sound w r (startsOf w) (few w (tilesOf w) (g .tiles)) (sym (k .is) ∙ y) .1 x in
       unmet-has w m′ (minusAll (startsOf w) (listsOf w r)) (binnedOf w r) (k .marks y) x
       ∙ live-test (cnt x (minusAll (startsOf w) (listsOf w r))) (total x (view w r)) (cnt x (startsOf w))
-      (omega (arith, c, total-lists x (view w r) refl, ap (cntAll x) (view-lists w r))) (starts-once (tilesOf w) 0 x (g .tiles .fit))
+      (omega (arith, c, total-lists x (view w r) refl, ap (cntAll x) (view-lists w r))) (starts-once (tilesOf w) 0 x (g .tiles .sizes))
 
   pub audit-flag : (t l f : Audited) (m m′ : List ℕ) → getD r lengthWord 0 ≡ 8 * length w → TilesDone w (getD r topWord 0) t m → t ≡ A.Sound → ListsDone w r l m′ → l ≡ A.Sound
       → FlagsDone w m′ f → AuditDone w r f m′

@@ -16,6 +16,11 @@ use sizes::bin_first;
 use sizes::bin_last;
 use sizes::bin_of_list;
 
+// The last list that has three more behind it, and the last cache list that has seven more: ALL_LISTS less 4, FAST_FROM less 8.
+const FOUR_LEFT: u32 = 196;
+
+const EIGHT_LEFT: u32 = 56;
+
 // The bits that are set in all of four words, and those that are set in any of them.
 fn four_and(r: &[u32], f: usize) -> u32
     requires { ⌜ f + 4 ≤ length (now r) ⌝ }
@@ -53,7 +58,7 @@ fn skip_bins(r: &[u32], i: u32) -> u32
     ensures { λ j. ⌜ Skipped (now (r .entry)) i j ⌝ }
 {
     let mut j = i;
-    while j + 4 <= ALL_LISTS {
+    while j <= FOUR_LEFT {
         if !eight_none(r, bin_first(bin_of_list(j))) {
             break;
         }
@@ -122,7 +127,7 @@ pub fn skip(r: &[u32], i: u32) -> u32
     ensures { λ j. ⌜ Skipped (now (r .entry)) i j ⌝ }
 {
     let mut j = i;
-    while j + 8 <= FAST_FROM {
+    while j <= EIGHT_LEFT {
         if !eight_none(r, CACHE_HEADS + (j as usize)) {
             break;
         }

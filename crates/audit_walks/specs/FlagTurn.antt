@@ -70,7 +70,7 @@ module _ (w m : List ℕ) (top o q s : ℕ) (i : FlagIn w m top o q s) (lt : o <
           let d : tileAt w o ≡ t = tile-read w o t ts k in
           subst (λ (y : ℕ). FlagIn w m top (o + y) (binAt m o) y) (sym (ap (λ (z : Tile). z .size) d)) (record {
             ts = ts;
-            even = omega (arith, i .even, k .fit .0);
+            even = omega (arith, i .even, k .sizes .0);
             tiles = tiles-later w o t ts k;
             atTop = a;
             sub = λ x j. u x (cnt-there x o (startsFrom (o + t .size) ts) j);
@@ -87,7 +87,7 @@ module _ (w m : List ℕ) (top o q s : ℕ) (i : FlagIn w m top o q s) (lt : o <
       go [] k a = absurd (omega arith)
       go (t ∷ ts) k a =
           let d : sizeAt w o ≡ t .size = ap (λ (z : Tile). z .size) (tile-read w o t ts k) in
-          (omega (arith, d, k .fit .1), omega (arith, d, end-le (o + t .size) ts))
+          (omega (arith, d, k .sizes .1), omega (arith, d, end-le (o + t .size) ts))
 
 -- ---- the top
 pub flag-last : (w m : List ℕ) (top o q s : ℕ) → Flagging w top → FlagIn w m top o q s → top ≤ o → (v : Bool) → v ≡ flagOk (tileAt w top) q s 1 → (z : Bool) → v ≡ z
@@ -101,7 +101,7 @@ flag-last w m top o q s fl i le v e z vz = λ b h. go (i .ts) (i .tiles) (i .atT
         sym (subst (λ (y : ℕ). flagFault b (topTile w) y q s [] ≡ elim z [ true ↦ A.Sound | false ↦ A.Flag y ]) a
         (fault-last b (topTile w) o q s z (ap (λ (t : Tile). flagOk t q s 1) p ∙ sym e ∙ vz)))
         ∙ ap (λ (y : ℕ). flagFault b (topTile w) y q s []) (sym a) ∙ c
-    go (t ∷ ts) k a b c = absurd (omega (arith, end-le (o + t .size) ts, k .fit .1))
+    go (t ∷ ts) k a b c = absurd (omega (arith, end-le (o + t .size) ts, k .sizes .1))
 
 -- ---- what the code reads of a chunk: P and the word of the previous size, which counts only where P is clear
 raw : (p v y q s b : ℕ) → flagOk (tile y p v) q s b ≡ flagOk (tile y p (elim (eqb p 0) [ true ↦ v | false ↦ 0 ])) q s b

@@ -135,14 +135,14 @@ tile-sound w m top o i e l z =
     let s : A.Sound ≡ tileFault w top 0 (tilesOf w) =
     sym (ap (tileFault w top o) n ∙ fault-last w top o true e (rw (eq-eqb (o + sizeAt w o) (8 * length w) l, both) (eq-eqb top o z))) ∙ i .same in
     let k : TilesOk w 0 (tilesOf w) = tiles-sound (length w) w top 0 (sym s) .0 in
-    let st : (x : ℕ) → 1 ≤ cnt x (startsOf w) → Start (tilesOf w) 0 x = λ x j. start (tilesOf w) 0 x (k .fit) j in
+    let st : (x : ℕ) → 1 ≤ cnt x (startsOf w) → Start (tilesOf w) 0 x = λ x j. start (tilesOf w) 0 x (k .sizes) j in
     record {
       is = s;
       marks = λ _. record {
         marks = record {
           s = λ x. 0;
           is = λ x x16. omega (arith, i .marks x x16, ap (λ (y : List Tile). cnt x (startsFrom o y)) n);
-          once = λ x. omega (arith, starts-once (tilesOf w) 0 x (k .fit));
+          once = λ x. omega (arith, starts-once (tilesOf w) 0 x (k .sizes));
           even = λ x j. st x j .even;
           inside = λ x j. omega (arith, st x j .high, k .top);
         };

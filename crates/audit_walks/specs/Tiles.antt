@@ -17,7 +17,7 @@ use Rattle.machine.specs.Heap.{Tile, tile, endFrom, startsFrom, since, hdSize}
 use Rattle.machine.specs.View.{sizeAt, lowAt, tileAt, tilesFrom}
 use Rattle.machine.specs.Audit.{tileOk, tileFault}
 use Rattle.machine.specs.declared.Audited.the-variants as A
-use Rattle.sound.specs.Relation.{fits, tilesAt}
+use Rattle.sound.specs.Relation.{tiled, tilesAt}
 use Rattle.sound.specs.Tiles.{end-le, none-out, starts-length}
 use Rattle.sound.specs.Release.{both-true}
 use Rattle.audit_walks.specs.Tests.{sound-if}
@@ -29,7 +29,7 @@ noted (t ∷ ts) = (t .p ≡ 1 → t .prev ≡ 0) × noted ts
 
 -- the tiles ts from o on, and after them the tile that reaches the end
 pub record TilesOk (w : List ℕ) (o : ℕ) (ts : List Tile) : Type 0 where
-  pub fit : fits ts
+  pub sizes : tiled ts
   pub words : tilesAt w o ts
   pub notes : noted ts
   pub low : lowAt w (endFrom o ts) ≤ 1
@@ -37,7 +37,7 @@ pub record TilesOk (w : List ℕ) (o : ℕ) (ts : List Tile) : Type 0 where
   pub top : endFrom o ts + sizeAt w (endFrom o ts) ≡ 8 * length w
 
 pub tiles-later : (w : List ℕ) (o : ℕ) (t : Tile) (ts : List Tile) → TilesOk w o (t ∷ ts) → TilesOk w (o + t .size) ts
-tiles-later w o t ts k = record { fit = k .fit .3; words = k .words .2; notes = k .notes .1; low = k .low; least = k .least; top = k .top }
+tiles-later w o t ts k = record { sizes = k .sizes .3; words = k .words .2; notes = k .notes .1; low = k .low; least = k .least; top = k .top }
 
 -- ---- no fault, so the tiles are good
 tile-parts : (w : List ℕ) (o : ℕ) → tileOk w o ≡ true → (lowAt w o ≤ 1) × (32 ≤ sizeAt w o)
@@ -52,7 +52,7 @@ last w top o e =
     let p = both-true (tileOk w o) _ (s .0) in
     let q = both-true (eqb (o + sizeAt w o) (8 * length w)) (eqb top o) (p .1) in
     let t = tile-parts w o (p .0) in (
-      record { fit = tt; words = tt; notes = tt; low = t .0; least = t .1; top = eqb-true (o + sizeAt w o) (8 * length w) (q .0) },
+      record { sizes = tt; words = tt; notes = tt; low = t .0; least = t .1; top = eqb-true (o + sizeAt w o) (8 * length w) (q .0) },
       eqb-true top o (q .1),
     )
 
@@ -82,7 +82,7 @@ tiles-sound (suc f) w top o e = go (λ z. tiles-sound f w top (o + sizeAt w o) z
         let t = tile-parts w o (s .0) in
         let k = r (s .1) in (
           record {
-            fit = (omega arith, t .1, t .0, k .0 .fit);
+            sizes = (omega arith, t .1, t .0, k .0 .sizes);
             words = (omega arith, read-prev w o, k .0 .words);
             notes = (read-none w o, k .0 .notes);
             low = k .0 .low;
@@ -103,12 +103,12 @@ tile-ok w o l s = rw (lt-ltb (lowAt w o) 2 (omega arith), tileOk) (le-leb 32 (si
 -- the tile that is read at o is the one that stands there
 pub tile-read : (w : List ℕ) (o : ℕ) (t : Tile) (ts : List Tile) → TilesOk w o (t ∷ ts) → tileAt w o ≡ t
 tile-read w o t ts k =
-    let q = one-tile w o (t .size) (t .p) (k .fit .0) (k .fit .2) (k .words .0) in
+    let q = one-tile w o (t .size) (t .p) (k .sizes .0) (k .sizes .2) (k .words .0) in
     rw (q .0, q .1) (ap (tile (t .size) (t .p)) (note (eqb (t .p) 0) refl))
   where
     note : (b : Bool) → eqb (t .p) 0 ≡ b → elim b [ true ↦ getD w (prevWord o) 0 | false ↦ 0 ] ≡ t .prev
     note true e = k .words .1 (eqb-true (t .p) 0 e)
-    note false e = sym (k .notes .0 (set (t .p) (k .fit .2) e))
+    note false e = sym (k .notes .0 (set (t .p) (k .sizes .2) e))
       where
         set : (n : ℕ) → n ≤ 1 → eqb n 0 ≡ false → n ≡ 1
         set n h e = let z : n ≡ 0 → ⊥ = eqb-false n 0 e in omega arith
@@ -118,8 +118,8 @@ tiles-read zero w o ts b k = absurd (omega (arith, k .top, end-le o ts))
 tiles-read (suc f) w o [] b k = rw (le-ltb (o + sizeAt w o) (8 * length w) (omega (arith, k .top)), tilesFrom)
 tiles-read (suc f) w o (t ∷ ts) b k =
     let n = end-le (o + t .size) ts in
-    let q = one-tile w o (t .size) (t .p) (k .fit .0) (k .fit .2) (k .words .0) in
-    let e : tilesFrom f w (o + t .size) ≡ ts = tiles-read f w (o + t .size) ts (omega (arith, k .fit .1)) (tiles-later w o t ts k) in
+    let q = one-tile w o (t .size) (t .p) (k .sizes .0) (k .sizes .2) (k .words .0) in
+    let e : tilesFrom f w (o + t .size) ≡ ts = tiles-read f w (o + t .size) ts (omega (arith, k .sizes .1)) (tiles-later w o t ts k) in
     rw (lt-ltb (o + sizeAt w o) (8 * length w) (omega (arith, q .0, k .top, k .least)), tilesFrom) (rw (tile-read w o t ts k, q .0, e))
 
 pub tiles-complete : (w : List ℕ) (o : ℕ) (ts : List Tile) → TilesOk w o ts → tileFault w (endFrom o ts) o ts ≡ A.Sound
@@ -127,18 +127,18 @@ unfolding tileFault
 tiles-complete w o [] k =
     rw (tile-ok w o (k .low) (k .least), tileFault) (rw (eq-eqb (o + sizeAt w o) (8 * length w) (k .top)) (rw (eq-eqb o o refl)))
 tiles-complete w o (t ∷ ts) k =
-    let q = one-tile w o (t .size) (t .p) (k .fit .0) (k .fit .2) (k .words .0) in
-    rw (tile-ok w o (omega (arith, q .1, k .fit .2)) (omega (arith, q .0, k .fit .1)), tileFault) (tiles-complete w (o + t .size) ts (tiles-later w o t ts k))
+    let q = one-tile w o (t .size) (t .p) (k .sizes .0) (k .sizes .2) (k .words .0) in
+    rw (tile-ok w o (omega (arith, q .1, k .sizes .2)) (omega (arith, q .0, k .sizes .1)), tileFault) (tiles-complete w (o + t .size) ts (tiles-later w o t ts k))
 
 -- ---- the starts: the end is none, and there are few
-pub end-no-start : (ts : List Tile) (o : ℕ) → fits ts → cnt (endFrom o ts) (startsFrom o ts) ≡ 0
+pub end-no-start : (ts : List Tile) (o : ℕ) → tiled ts → cnt (endFrom o ts) (startsFrom o ts) ≡ 0
 end-no-start ts o f = none-out ts o (endFrom o ts) f (inr (omega arith))
 
 pub few : (w : List ℕ) (ts : List Tile) → TilesOk w 0 ts → length (startsFrom 0 ts) < length w
-few w ts k = omega (arith, starts-length 0 ts (k .fit), k .least, k .top)
+few w ts k = omega (arith, starts-length 0 ts (k .sizes), k .least, k .top)
 
 -- the size that the words say is the tile's
-pub size-at : (w : List ℕ) (o : ℕ) (ts : List Tile) (x : ℕ) → fits ts → tilesAt w o ts → 1 ≤ cnt x (startsFrom o ts)
+pub size-at : (w : List ℕ) (o : ℕ) (ts : List Tile) (x : ℕ) → tiled ts → tilesAt w o ts → 1 ≤ cnt x (startsFrom o ts)
     → sizeAt w x ≡ hdSize (since o x ts)
 size-at w o [] x f k m = absurd (not-suc-le-zero m)
 size-at w o (t ∷ ts) x f k m = go (λ h. size-at w (o + t .size) ts x (f .3) (k .2) h) (eqb o x) refl

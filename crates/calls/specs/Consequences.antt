@@ -12,7 +12,7 @@ use Rattle.le.specs.Arena.{arenaWords}
 use Rattle.le.specs.ArenaLaws.{length-arenaWords}
 use Rattle.sizes.specs.Limits.{mostRequest}
 use Rattle.sizes.specs.Sizes.{need, usable}
-use Rattle.sizes.specs.SizesLaws.{Fitting, need-bounds}
+use Rattle.sizes.specs.SizesLaws.{NeedBounds, need-bounds}
 use Rattle.machine.specs.Lists.{cnt}
 use Rattle.machine.specs.Count.{ind-same}
 use Rattle.machine.specs.Heap.{Heap, stack, opened, topOf, starts, sizeOf, live?}
@@ -29,7 +29,7 @@ use Rattle.machine.specs.declared.Audited.{Audited}
 use Rattle.sound.specs.Relation.{Loose, Good, Sound}
 use Rattle.sound.specs.Tiles.{start}
 use Rattle.sound.specs.Frames.{Starts, starts-all, apply-length}
-use Rattle.sound.specs.Edits.{fits-tiles, size-32}
+use Rattle.sound.specs.Edits.{tiled-tiles, size-32}
 use Rattle.sound.specs.Spares.{clear-of}
 use Rattle.sound.specs.Moves.{answerOf}
 use Rattle.sound.specs.Ends.{Ends}
@@ -38,8 +38,8 @@ use Rattle.sound.specs.Live.{But, Gives, live-loose, loose-live, release-goes, 
 use Rattle.calls.specs.Ways.{grant-shape, grant-request, grant-unsound, release-shape, release-unsound, settle-shape, settle-unsound}
 use Rattle.calls.specs.Written.{top-most}
 use Rattle.calls.specs.Remainder.{Fine, grant-fine, release-fine, settle-fine}
-use Rattle.calls.specs.Results.{Lent, SoundIn, UnsoundIn, answered, arenaLeft, recordLeft, heapLeft, LiveMem, Exactly, Fit, CachesKept, LiveKept, GrantedNew}
-use Rattle.calls.specs.Left.{lent-shape, lent-sound, lent-fine, left-heap, left-fit, left-keeps}
+use Rattle.calls.specs.Results.{Lent, SoundIn, UnsoundIn, answered, arenaLeft, recordLeft, heapLeft, LiveMem, Exactly, StaysSound, CachesKept, LiveKept, GrantedNew}
+use Rattle.calls.specs.Left.{lent-shape, lent-sound, lent-fine, left-heap, left-stays, left-keeps}
 use Rattle.calls.specs.Cases.{open-called, grant-cases, release-cases, settle-cases}
 
 -- ---- number 3: an unsound heap is refused before the first write, and nothing changes
@@ -88,7 +88,7 @@ new-block h g n c G lo b dead =
     let k : c + 16 - 16 ≡ c = omega arith in
     let s = G .shape in
     let m : 1 ≤ cnt c (starts g) = omega arith in
-    let st = start (g .tiles) 0 c (fits-tiles g s) m in
+    let st = start (g .tiles) 0 c (tiled-tiles g s) m in
     let top : 1 ≤ cnt (topOf g) (Starts g) = omega (arith, starts-all g (topOf g), ind-same (topOf g)) in
     let z : 32 ≤ sizeOf g c = size-32 g c s m in
     record {
@@ -118,7 +118,7 @@ module _ (a r : List ℕ) (L : Lent a r) where
 
   grant-ends : (n : ℕ) → n ≤ 262144 → SoundIn a r → Ends (grant (need n) (heapIn a r)) (arenaWords a) Fine
   grant-ends n l S =
-      let b : Fitting n (need n) = need-bounds n in
+      let b : NeedBounds n (need n) = need-bounds n in
       grant-fine (need n) (b .whole) (b .least) (b .most l) (heapIn a r) (arenaWords a) (lent-fine a r L S) (heard S .mem)
 
   gives : (n : ℕ) → SoundIn a r → Gives (need n) (heapIn a r) (grant (need n) (heapIn a r))
@@ -189,26 +189,26 @@ module _ (a r : List ℕ) (L : Lent a r) where
       (λ U. no-yes a r S U) (λ S. left-heap a r (settle (heapIn a r)) Done L (settle-ends S))
 
   -- ---- an opened heap is sound, and what is sound stays sound and of good shape in every call, refused or not
-  pub open-sound : Fit (openCall a r)
-  open-sound = subst Fit (open-called a r L) (left-fit a r (does (opened (length a)) (size 0 (length a) 1 ∷ [])) Done L open-ends)
+  pub open-sound : StaysSound (openCall a r)
+  open-sound = subst StaysSound (open-called a r L) (left-stays a r (does (opened (length a)) (size 0 (length a) 1 ∷ [])) Done L open-ends)
 
-  same-fit : (x : Answer) → SoundIn a r → Fit (after a r x)
-  same-fit x S = record { lent = L; sound = S }
+  same-stays : (x : Answer) → SoundIn a r → StaysSound (after a r x)
+  same-stays x S = record { lent = L; sound = S }
 
-  pub grant-stays-sound : (n : ℕ) → SoundIn a r → Fit (grantCall a r n)
-  grant-stays-sound n S = grant-cases a r L Fit n
-      (λ g. same-fit (Refused R.Request) S) (λ U. same-fit (Refused R.Unsound) S)
-      (λ l S q. left-fit a r (grant (need n) (heapIn a r)) (Refused R.NoRoom) L (grant-ends n l S))
+  pub grant-stays-sound : (n : ℕ) → SoundIn a r → StaysSound (grantCall a r n)
+  grant-stays-sound n S = grant-cases a r L StaysSound n
+      (λ g. same-stays (Refused R.Request) S) (λ U. same-stays (Refused R.Unsound) S)
+      (λ l S q. left-stays a r (grant (need n) (heapIn a r)) (Refused R.NoRoom) L (grant-ends n l S))
       (λ l S c q.
-      left-fit a r (grant (need n) (heapIn a r)) (Granted (c + 16) (usable (sizeOf (heapOf (grant (need n) (heapIn a r))) c))) L (grant-ends n l S))
+      left-stays a r (grant (need n) (heapIn a r)) (Granted (c + 16) (usable (sizeOf (heapOf (grant (need n) (heapIn a r))) c))) L (grant-ends n l S))
 
-  pub release-stays-sound : (m : ℕ) → SoundIn a r → Fit (releaseCall a r m)
-  release-stays-sound m S = release-cases a r L Fit m
-      (λ U. same-fit (Refused R.Unsound) S) (λ S z. same-fit Done S) (λ S z d. same-fit (Refused R.NotLive) S)
-      (λ S v. left-fit a r (release (m - 16) (heapIn a r)) Done L (release-ends m S v))
+  pub release-stays-sound : (m : ℕ) → SoundIn a r → StaysSound (releaseCall a r m)
+  release-stays-sound m S = release-cases a r L StaysSound m
+      (λ U. same-stays (Refused R.Unsound) S) (λ S z. same-stays Done S) (λ S z d. same-stays (Refused R.NotLive) S)
+      (λ S v. left-stays a r (release (m - 16) (heapIn a r)) Done L (release-ends m S v))
 
-  pub settle-stays-sound : SoundIn a r → Fit (settleCall a r)
-  settle-stays-sound S = settle-cases a r L Fit (λ U. same-fit (Refused R.Unsound) S) (λ S. left-fit a r (settle (heapIn a r)) Done L (settle-ends S))
+  pub settle-stays-sound : SoundIn a r → StaysSound (settleCall a r)
+  settle-stays-sound S = settle-cases a r L StaysSound (λ U. same-stays (Refused R.Unsound) S) (λ S. left-stays a r (settle (heapIn a r)) Done L (settle-ends S))
 
   -- ---- number 5 leaves the cache lists and the last remainder as they were
   pub grant-5-keeps : (n : ℕ) → answered (grantCall a r n) ≡ Refused R.NoRoom → CachesKept a r (grantCall a r n)

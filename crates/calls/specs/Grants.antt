@@ -13,7 +13,7 @@ use Rattle.le.specs.Arena.{arenaWords}
 use Rattle.le.specs.ArenaLaws.{length-arenaWords}
 use Rattle.sizes.specs.Limits.{mostRequest}
 use Rattle.sizes.specs.Sizes.{need, usable}
-use Rattle.sizes.specs.SizesLaws.{need-bounds, Fitting}
+use Rattle.sizes.specs.SizesLaws.{need-bounds, NeedBounds}
 use Rattle.sizes.specs.Needed.{neededOf}
 use Rattle.sizes.specs.declared.Needed.{Needed}
 use Rattle.sizes.specs.declared.Needed.the-variants as N
@@ -33,7 +33,7 @@ use Rattle.machine.specs.declared.Answer.the-variants.{Granted, Refused}
 use Rattle.sound.specs.Relation.{Shape, Mem, Loose, Good, Sound}
 use Rattle.sound.specs.Tiles
 use Rattle.sound.specs.Frames.{Starts, starts-all}
-use Rattle.sound.specs.Edits.{fits-tiles, size-32}
+use Rattle.sound.specs.Edits.{tiled-tiles, size-32}
 use Rattle.sound.specs.Spares.{clear-of}
 use Rattle.sound.specs.Moves.{answerOf}
 use Rattle.sound.specs.Keeps.{grant-ends}
@@ -69,7 +69,7 @@ needed-size n b x e f = go (ltb mostRequest n) refl (sym e ∙ f)
     go true l e = absurd (let z : _≡_ {A = ℕ} 0 1 = cc in omega arith)
     go false l e =
         let q : need n ≡ b = cc in
-        let i : Fitting n (need n) = need-bounds n in
+        let i : NeedBounds n (need n) = need-bounds n in
         record {
           small = l;
           is = sym q;
@@ -96,7 +96,7 @@ pub record Stands (b : List ℕ) (m : ℕ) : Type 0 where
 size-most : (h : Heap) (w : List ℕ) (x : ℕ) → Shape h → Mem h w → 1 ≤ cnt x (starts h) → sizeOf h x ≤ 262144
 size-most h w x s m i =
     let j : 1 ≤ cnt (topOf h) (Starts h) = omega (arith, starts-all h (topOf h), ind-same (topOf h)) in
-    let u = Tiles.start (h .tiles) 0 x (fits-tiles h s) i in
+    let u = Tiles.start (h .tiles) 0 x (tiled-tiles h s) i in
     let v = start-chunk h w s m (topOf h) j in
     ⊎-elim (λ l. absurd (omega (arith, u .high))) (⊎-elim (λ l. absurd (omega (arith, u .high))) (λ l. omega (arith, v .small))) (clear-of h x (topOf h) s i j)
 

@@ -25,7 +25,7 @@ use Rattle.machine.specs.declared.Answer.{Answer}
 use Rattle.sound.specs.Relation.{Loose, Good, Sound}
 use Rattle.sound.specs.Tiles.{lt-or-le, start}
 use Rattle.sound.specs.Frames.{apply-length}
-use Rattle.sound.specs.Edits.{fits-tiles, size-16}
+use Rattle.sound.specs.Edits.{tiled-tiles, size-16}
 use Rattle.sound.specs.RecordOf.{record-words}
 use Rattle.sound.specs.Ends.{Ends}
 use Rattle.sound.specs.Live.{Tame, tame-words, live-loose, loose-live}
@@ -35,7 +35,7 @@ use Rattle.calls.specs.Through.{came-sound}
 use Rattle.calls.specs.Bytes.{bytes-small}
 use Rattle.calls.specs.Written.{written-sound, written-read}
 use Rattle.calls.specs.Remainder.{Fine}
-use Rattle.calls.specs.Results.{Lent, SoundIn, heapLeft, Fit, LiveKept}
+use Rattle.calls.specs.Results.{Lent, SoundIn, heapLeft, StaysSound, LiveKept}
 
 -- ---- equal words have equal bytes
 width : (v : ℕ) → length (digits 8 v) ≡ 8
@@ -89,8 +89,8 @@ module _ {A : Type 0} (a r : List ℕ) (s : Ran A) (y : Answer) (L : Lent a r) (
   pub left-heap : heapLeft (left a (heapOf s) (writes s) y) ≡ heapOf s
   left-heap = written-read (heapOf s) (E .now .good) (apply (writes s) (arenaWords a)) (E .mem) (E .now .low)
 
-  pub left-fit : Fit (left a (heapOf s) (writes s) y)
-  left-fit =
+  pub left-stays : StaysSound (left a (heapOf s) (writes s) y)
+  left-stays =
       let g : Heap = heapOf s in
       let G : Good g = E .now .good in
       let w : List ℕ = apply (writes s) (arenaWords a) in
@@ -116,7 +116,7 @@ module _ {A : Type 0} (a r : List ℕ) (s : Ran A) (y : Answer) (L : Lent a r) (
       let lo : Loose h c = live-loose h c v in
       let k = t .keeps c x lo in
       let m : 1 ≤ cnt c (starts h) = omega arith in
-      let st = start (h .tiles) 0 c (fits-tiles h (G .shape)) m in
+      let st = start (h .tiles) 0 c (tiled-tiles h (G .shape)) m in
       record {
         live = subst (λ (g : Heap). live? g c ≡ true) (sym left-heap) (loose-live (heapOf s) c (E .now .good .shape) (k .0));
         size = ap (λ (g : Heap). sizeOf g c) left-heap ∙ k .1;

@@ -49,7 +49,7 @@ abbrev pub Exactly : Type 0 → Type 0 → Type 0
 Exactly P Q = (P → Q) × (Q → P)
 
 -- ---- bytes of good shape, and sound
-pub record Fit (x : After) : Type 0 where
+pub record StaysSound (x : After) : Type 0 where
   pub lent : Lent (arenaLeft x) (recordLeft x)
   pub sound : SoundIn (arenaLeft x) (recordLeft x)
 

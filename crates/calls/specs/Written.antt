@@ -1,5 +1,5 @@
 -- A sound heap survives its bytes: its words and its record, written as bytes and read again, are those of the same heap. Every word that the relation
--- reads is an offset, a size or none, and so fits its width; a word that it does not read may be cut. Assumes nothing.
+-- reads is an offset, a size or none, and so tiled its width; a word that it does not read may be cut. Assumes nothing.
 use mathlib.Core.Path.{_≡_, ap, _∙_}
 use mathlib.Core.List.{List, [], _∷_}
 use Prim.Native.Nat.{ℕ, _+_, _*_, _≤_}
@@ -13,20 +13,20 @@ use Rattle.machine.specs.Lists.{hd, lst, cnt}
 use Rattle.machine.specs.Count.{cnt-here, cnt-there, cnt-le-all}
 use Rattle.machine.specs.Heap.{Tile, tile, Heap, topSize, stack, cache, fast, fastAt, bin, binned, endFrom, topOf, starts, recordOf}
 use Rattle.machine.specs.Calls.{heapIn, wordsOf}
-use Rattle.sound.specs.Relation.{all, fits, tilesAt, chain, links, Mem, flags, Good, Sound}
-use Rattle.sound.specs.Tiles.{fits-split, end-le, start}
+use Rattle.sound.specs.Relation.{all, tiled, tilesAt, chain, links, Mem, flags, Good, Sound}
+use Rattle.sound.specs.Tiles.{tiled-split, end-le, start}
 use Rattle.sound.specs.Frames.{end-all}
-use Rattle.sound.specs.Edits.{fits-tiles}
+use Rattle.sound.specs.Edits.{tiled-tiles}
 use Rattle.sound.specs.RecordOf.{record-words, record-ext}
 use Rattle.audit.specs.Exact.{audit-read}
 use Rattle.calls.specs.Bytes.{cut, getD-cut, length-cut, words-cut, arenaWords-cut}
 
--- a word that fits its width is read as it was written
-fits8 : (w : List ℕ) (i x : ℕ) → getD w i 0 ≡ x → x ≤ none64 → getD (cut 8 w) i 0 ≡ x
-fits8 w i x e l = getD-cut 8 w i ∙ omega arith
+-- a word that tiled its width is read as it was written
+kept8 : (w : List ℕ) (i x : ℕ) → getD w i 0 ≡ x → x ≤ none64 → getD (cut 8 w) i 0 ≡ x
+kept8 w i x e l = getD-cut 8 w i ∙ omega arith
 
-fits4 : (r : List ℕ) (i x : ℕ) → getD r i 0 ≡ x → x ≤ none32 → getD (cut 4 r) i 0 ≡ x
-fits4 r i x e l = getD-cut 4 r i ∙ omega arith
+kept4 : (r : List ℕ) (i x : ℕ) → getD r i 0 ≡ x → x ≤ none32 → getD (cut 4 r) i 0 ≡ x
+kept4 r i x e l = getD-cut 4 r i ∙ omega arith
 
 hd-most : (n : ℕ) (l : List ℕ) → 262144 ≤ n → ((x : ℕ) → 1 ≤ cnt x l → x ≤ 262144) → hd n l ≤ n
 hd-most n [] g m = omega arith
@@ -37,13 +37,13 @@ lst-most n k [] g e m = e
 lst-most n k (x ∷ l) g e m = lst-most x k l g (omega (arith, m x (cnt-here x l))) (λ y c. m y (cnt-there y x l c))
 
 -- ---- the arena's words
-tiles-cut : (b : ℕ → ℕ) (w : List ℕ) (o q s : ℕ) (ts : List Tile) → fits ts → flags b o q s ts → s ≤ 262144 → endFrom o ts ≤ 262144 → tilesAt w o ts
+tiles-cut : (b : ℕ → ℕ) (w : List ℕ) (o q s : ℕ) (ts : List Tile) → tiled ts → flags b o q s ts → s ≤ 262144 → endFrom o ts ≤ 262144 → tilesAt w o ts
     → tilesAt (cut 8 w) o ts
 tiles-cut b w o q s [] f g l e k = tt
 tiles-cut b w o q s (t ∷ ts) f g l e k =
     let n : o + t .size ≤ 262144 = omega (arith, end-le (o + t .size) ts) in (
-      fits8 w (sizeWord o) (t .size + t .p) (k .0) (omega (arith, f .2)),
-      λ z. fits8 w (prevWord o) (t .prev) (k .1 z) (omega (arith, g .2 .0 z)),
+      kept8 w (sizeWord o) (t .size + t .p) (k .0) (omega (arith, f .2)),
+      λ z. kept8 w (prevWord o) (t .prev) (k .1 z) (omega (arith, g .2 .0 z)),
       tiles-cut b w (o + t .size) (b o) (t .size) ts (f .3) (g .3) (omega arith) e (k .2),
     )
 
@@ -51,24 +51,24 @@ chain-cut : (w l : List ℕ) → ((x : ℕ) → 1 ≤ cnt x l → x ≤ 262144) 
 chain-cut w [] m k = tt
 chain-cut w (x ∷ l) m k =
     let n : (y : ℕ) → 1 ≤ cnt y l → y ≤ 262144 = λ y c. m y (cnt-there y x l c) in
-    (fits8 w (fwdWord x) (hd none64 l) (k .0) (hd-most none64 l (omega arith) n), chain-cut w l n (k .1))
+    (kept8 w (fwdWord x) (hd none64 l) (k .0) (hd-most none64 l (omega arith) n), chain-cut w l n (k .1))
 
 links-cut : (w : List ℕ) (p : ℕ) (l : List ℕ) → p ≤ none64 → ((x : ℕ) → 1 ≤ cnt x l → x ≤ 262144) → links w p l none64 → links (cut 8 w) p l none64
 links-cut w p [] e m k = tt
 links-cut w p (x ∷ l) e m k =
     let n : (y : ℕ) → 1 ≤ cnt y l → y ≤ 262144 = λ y c. m y (cnt-there y x l c) in (
-      fits8 w (fwdWord x) (hd none64 l) (k .0) (hd-most none64 l (omega arith) n),
-      fits8 w (backWord x) p (k .1) e,
+      kept8 w (fwdWord x) (hd none64 l) (k .0) (hd-most none64 l (omega arith) n),
+      kept8 w (backWord x) p (k .1) e,
       links-cut w x l (omega (arith, m x (cnt-here x l))) n (k .2),
     )
 
 module _ (h : Heap) (g : Good h) where
   pub start-most : (x : ℕ) → 1 ≤ cnt x (starts h) → x + 32 ≤ topOf h
-  start-most x m = start (h .tiles) 0 x (fits-tiles h (g .shape)) m .high
+  start-most x m = start (h .tiles) 0 x (tiled-tiles h (g .shape)) m .high
 
   pub top-most : topOf h + 32 ≤ h .len
   top-most =
-      let f = fits-split (h .tiles) (tile (topSize h) 1 0 ∷ []) (g .shape .fit) in
+      let f = tiled-split (h .tiles) (tile (topSize h) 1 0 ∷ []) (g .shape .sizes) in
       omega (arith, f .1 .1)
 
   stack-most : (k x : ℕ) → 1 ≤ cnt x (stack h k) → x ≤ 262144
@@ -80,7 +80,7 @@ module _ (h : Heap) (g : Good h) where
   pub mem-cut : (w : List ℕ) → Mem h w → Mem h (cut 8 w)
   mem-cut w m = record {
     long = ap (λ (n : ℕ). 8 * n) (length-cut 8 w) ∙ m .long;
-    words = tiles-cut (λ x. binned h x) w 0 0 0 (all h) (g .shape .fit) (g .flag) (omega arith) (omega (arith, end-all h (g .shape .fit), g .shape .small)) (m .words);
+    words = tiles-cut (λ x. binned h x) w 0 0 0 (all h) (g .shape .sizes) (g .flag) (omega arith) (omega (arith, end-all h (g .shape .sizes), g .shape .small)) (m .words);
     chains = λ k. chain-cut w (stack h k) (stack-most k) (m .chains k);
     blinks = λ j. links-cut w none64 (bin h j) (omega arith) (bin-most j) (m .blinks j);
   }
@@ -92,14 +92,14 @@ module _ (h : Heap) (g : Good h) where
       let r : List ℕ = recordOf h in
       record-ext h (cut 4 r) (g .shape .stacked74) (g .shape .binned127) (record {
         all = length-cut 4 r ∙ o .all;
-        len = fits4 r lengthWord (h .len) (o .len) (omega (arith, g .shape .small));
-        top = fits4 r topWord (topOf h) (o .top) (omega (arith, top-most, g .shape .small));
-        remainder = fits4 r remainderWord (h .remainder) (o .remainder) low;
-        heads = λ k l. fits4 r (cacheHead k) (hd none32 (cache h k)) (o .heads k l) (hd-most none32 (cache h k) (omega arith) (stack-most k));
-        counts = λ k l. fits4 r (cacheCount k) (length (cache h k)) (o .counts k l) (omega (arith, g .homes .short k l));
-        fasts = λ k l. fits4 r (fastHead k) (hd none32 (fast h k)) (o .fasts k l) (hd-most none32 (fast h k) (omega arith) (stack-most (fastAt k)));
-        firsts = λ j l m. fits4 r (binFirst j) (hd none32 (bin h j)) (o .firsts j l m) (hd-most none32 (bin h j) (omega arith) (bin-most j));
-        lasts = λ j l m. fits4 r (binLast j) (lst none32 (bin h j)) (o .lasts j l m) (lst-most none32 none32 (bin h j) (omega arith) (omega arith) (bin-most j));
+        len = kept4 r lengthWord (h .len) (o .len) (omega (arith, g .shape .small));
+        top = kept4 r topWord (topOf h) (o .top) (omega (arith, top-most, g .shape .small));
+        remainder = kept4 r remainderWord (h .remainder) (o .remainder) low;
+        heads = λ k l. kept4 r (cacheHead k) (hd none32 (cache h k)) (o .heads k l) (hd-most none32 (cache h k) (omega arith) (stack-most k));
+        counts = λ k l. kept4 r (cacheCount k) (length (cache h k)) (o .counts k l) (omega (arith, g .homes .short k l));
+        fasts = λ k l. kept4 r (fastHead k) (hd none32 (fast h k)) (o .fasts k l) (hd-most none32 (fast h k) (omega arith) (stack-most (fastAt k)));
+        firsts = λ j l m. kept4 r (binFirst j) (hd none32 (bin h j)) (o .firsts j l m) (hd-most none32 (bin h j) (omega arith) (bin-most j));
+        lasts = λ j l m. kept4 r (binLast j) (lst none32 (bin h j)) (o .lasts j l m) (lst-most none32 none32 (bin h j) (omega arith) (omega arith) (bin-most j));
       })
 
   pub written-sound : (w : List ℕ) → Mem h w → h .remainder ≤ none32 → Sound h (arenaWords (bytes 8 w)) (wordsOf (bytes 4 (recordOf h)))

@@ -16,8 +16,8 @@ use Rattle.machine.specs.Primitives.{cutTop}
 use Rattle.machine.specs.Grant.{step9}
 use Rattle.machine.specs.declared.{Got.Got, Got.the-variants.At, Got.the-variants.Nothing}
 use Rattle.sound.specs.Relation.{Good}
-use Rattle.sound.specs.Tiles.{fits-split, end-even}
-use Rattle.sound.specs.Edits.{snoc-end, fits-tiles}
+use Rattle.sound.specs.Tiles.{tiled-split, end-even}
+use Rattle.sound.specs.Edits.{snoc-end, tiled-tiles}
 use Rattle.sound.specs.RecordOf.{record-withTiles}
 use Rattle.primitives.specs.Follow.{Ok, Has, Gave, Does}
 use Rattle.primitives.specs.FollowLaws.{gave-by, gave-none, ok-len, ok-top}
@@ -34,10 +34,10 @@ top-at a r H =
     let h = H .heap in
     let o = H .ok in
     let s = o .shape in
-    let f = fits-split (h .tiles) (tile (topSize h) 1 0 ∷ []) (s .fit) .1 in
+    let f = tiled-split (h .tiles) (tile (topSize h) 1 0 ∷ []) (s .sizes) .1 in
     let t = ok-top h (arenaWords a) r o in
     let l = ok-len h (arenaWords a) r o in
-    let e : topOf h % 16 ≡ 0 = end-even 0 (h .tiles) refl (fits-tiles h s) in
+    let e : topOf h % 16 ≡ 0 = end-even 0 (h .tiles) refl (tiled-tiles h s) in
     record { even = omega arith; room = omega (arith, f .1); inside = omega (arith, o .mem .long, length-arenaWords a); small = omega (arith, s .small) }
 
 module _ (b : ℕ) (h : Heap) where

@@ -23,7 +23,7 @@ use Rattle.machine.specs.declared.Turn.the-variants as T
 use Rattle.sound.specs.Relation.{Loose, Good}
 use Rattle.sound.specs.Tiles.{starts-once}
 use Rattle.sound.specs.Frames.{starts-all}
-use Rattle.sound.specs.Edits.{fits-tiles}
+use Rattle.sound.specs.Edits.{tiled-tiles}
 use Rattle.sound.specs.Lists.{lst-in, unlink-shape, unlink-mem}
 use Rattle.sound.specs.Take.{takeLast-leaves}
 use Rattle.sound.specs.Release.{both-true}
@@ -123,7 +123,7 @@ lone-is : (h : Heap) (w r : List ℕ) (b c z : ℕ) → Ok h w r → Last h w c 
 unfolding loneIn
 lone-is h w r b c z o L e =
     let s = o .shape in
-    let once : cnt c (bin h unsorted) ≤ 1 = omega (arith, s .own c, cnt-le-all c (h .bins) unsorted, starts-once (h .tiles) 0 c (fits-tiles h s)) in
+    let once : cnt c (bin h unsorted) ≤ 1 = omega (arith, s .own c, cnt-le-all c (h .bins) unsorted, starts-once (h .tiles) 0 c (tiled-tiles h s)) in
     let f : eqb (getD r (binFirst unsorted) 0) c ≡ eqb (length (bin h unsorted)) 1 =
     ap (λ (x : ℕ). eqb x c) (ok-first h w r o unsorted (omega arith) (omega arith)) ∙ one-long (bin h unsorted) c (L .here) once (L .last) in
     let m : getD r remainderWord 0 ≡ h .remainder = ap (λ (r : List ℕ). getD r remainderWord 0) (o .rec) ∙ record-remainder h (s .stacked74) (s .binned127) in

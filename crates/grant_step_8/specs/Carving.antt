@@ -21,11 +21,11 @@ use Rattle.machine.specs.Primitives.{putFirst, unlink, setP, setNote, setRemain
 use Rattle.machine.specs.Grant.{split, carve, step8}
 use Rattle.machine.specs.View.{sizeAt}
 use Rattle.machine.specs.declared.{Got.Got, Got.the-variants.At}
-use Rattle.sound.specs.Relation.{fits, Mem, Shape, Loose, Good}
-use Rattle.sound.specs.Tiles.{fits-split, end-append, starts-append, none-out, Place, place, zero-or, lt-or-le}
+use Rattle.sound.specs.Relation.{tiled, Mem, Shape, Loose, Good}
+use Rattle.sound.specs.Tiles.{tiled-split, end-append, starts-append, none-out, Place, place, zero-or, lt-or-le}
 use Rattle.sound.specs.Frames.{starts-all}
 use Rattle.sound.specs.Lists.{unlink-shape, unlink-loose, unlink-mem}
-use Rattle.sound.specs.Edits.{size-at, Kept, fits-tiles, note-is, note-kept, cut-is, cut-kept, size-place, size-16}
+use Rattle.sound.specs.Edits.{size-at, Kept, tiled-tiles, note-is, note-kept, cut-is, cut-kept, size-place, size-16}
 use Rattle.sound.specs.Carve.{take-out, split-is}
 use Rattle.sound.specs.RecordOf.{record-withRemainder, record-tiles}
 use Rattle.primitives.specs.Follow.{Ok, Has, Gave, Does}
@@ -57,7 +57,7 @@ around h c z s T = go (P .z) (P .tiles)
     go : (l : List Tile) → h .tiles ≡ P .a ++ P .t ∷ l → Around h c z
     go (u ∷ l) q = record { a = P .a; t = P .t; u = u; s = l; tiles = q; at = P .at; whole = e }
     go [] q =
-        let f : fits (P .a) × fits (P .t ∷ []) = fits-split (P .a) (P .t ∷ []) (subst fits q (fits-tiles h s)) in
+        let f : tiled (P .a) × tiled (P .t ∷ []) = tiled-split (P .a) (P .t ∷ []) (subst tiled q (tiled-tiles h s)) in
         absurd (omega (
           arith,
           T .next,
@@ -95,7 +95,7 @@ cut-at h w r a l t u b o e b16 b32 bt =
     let z : ℕ = t .size - b in
     let A₁ : Tile = tile b 1 0 in
     let B₁ : Tile = tile z 1 0 in
-    let f : fits a × fits (t ∷ u ∷ l) = fits-split a (t ∷ u ∷ l) (subst fits e (fits-tiles h s)) in
+    let f : tiled a × tiled (t ∷ u ∷ l) = tiled-split a (t ∷ u ∷ l) (subst tiled e (tiled-tiles h s)) in
     let sz : sizeOf h c ≡ t .size = size-at h a (u ∷ l) t e (f .0) in
     let ts₁ : List Tile = a ++ A₁ ∷ B₁ ∷ u ∷ l in
     let h₁ : Heap = withTiles ts₁ h in

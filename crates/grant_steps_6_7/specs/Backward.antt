@@ -17,7 +17,7 @@ use Rattle.sound.specs.Relation.{all, links, Mem, Shape}
 use Rattle.sound.specs.Frames.{end-all}
 use Rattle.sound.specs.Tiles.{end-append, starts-length}
 use Rattle.sound.specs.Lists.{links-split}
-use Rattle.sound.specs.Edits.{fits-tiles}
+use Rattle.sound.specs.Edits.{tiled-tiles}
 use Rattle.primitives.specs.Chunks.{Chunk, bin-chunk}
 use Rattle.primitives.specs.Sizes.{chunk-says}
 use Rattle.grant_steps_6_7.specs.Finds.{backFrom, left}
@@ -62,7 +62,7 @@ module _ (h : Heap) (w : List ℕ) (s : Shape h) (m : Mem h w) (j : ℕ) where
   part-short : (xs ys : List ℕ) → bin h j ≡ xs ++ ys → length xs ≤ length w
   part-short xs ys e =
       let p : length xs ≤ length (starts h) = pigeons xs (starts h) (λ x. omega (arith, s .own x, cnt-le-all x (h .bins) j, ap (cnt x) e, cnt-append x xs ys)) in
-      omega (arith, starts-length 0 (h .tiles) (fits-tiles h s), end-all h (s .fit), m .long, end-top h)
+      omega (arith, starts-length 0 (h .tiles) (tiled-tiles h s), end-all h (s .sizes), m .long, end-top h)
     where
       end-top : (h : Heap) → endFrom 0 (h .tiles) ≤ endFrom 0 (all h)
       end-top h = omega (arith, end-append 0 (h .tiles) (tile (topSize h) 1 0 ∷ []))

@@ -24,7 +24,7 @@ module _ (sz : ℕ → ℕ) (b : ℕ) where
   leastFit-skip : (x : ℕ) (l : List ℕ) → sz x < b → leastFit sz b (x ∷ l) ≡ leastFit sz b l
   leastFit-skip x l k = rw (lt-ltb (sz x) b k, leastFit)
 
-  -- m is below every size that fits
+  -- m is below every size that tiled
   leastFit-low : (m : ℕ) (l : List ℕ) → ((y : ℕ) → 1 ≤ cnt y l → b ≤ sz y → m ≤ sz y) → (leastFit sz b l ≡ 0) ⊎ (m ≤ leastFit sz b l)
   leastFit-low m [] k = inl refl
   leastFit-low m (x ∷ l) k = go (leastFit-low m l (λ y i. k y (cnt-there y x l i))) (ltb (sz x) b) refl (eqb (leastFit sz b l) 0) refl
@@ -39,7 +39,7 @@ module _ (sz : ℕ → ℕ) (b : ℕ) where
           (λ z. inr (omega (arith, k x (cnt-here x l) (ltb-false (sz x) b e))))
           r
 
-  -- it is at most every size that fits
+  -- it is at most every size that tiled
   leastFit-high : (y : ℕ) (l : List ℕ) → 1 ≤ b → 1 ≤ cnt y l → b ≤ sz y → (1 ≤ leastFit sz b l) × (leastFit sz b l ≤ sz y)
   leastFit-high y [] b1 i f = absurd (not-suc-le-zero i)
   leastFit-high y (x ∷ l) b1 i f = go (λ i. leastFit-high y l b1 i f) (ltb (sz x) b) refl (eqb (leastFit sz b l) 0) refl

@@ -60,8 +60,8 @@ module _ (h : Heap) (w r : List ℕ) (j b : ℕ) (o : Ok h w r) where
     pub back-chunk : Chunk w c
     back-chunk = back-tip .chunk
 
-    pub back-fits : b ≤ sizeAt w c → LastFit h j b c
-    back-fits l = record { back = B; enough = λ n. omega (arith, back-tip .size) }
+    pub back-found : b ≤ sizeAt w c → LastFit h j b c
+    back-found l = record { back = B; enough = λ n. omega (arith, back-tip .size) }
 
     pub back-next : (p : ℕ) → p ≡ getD w (backWord c) 0 → sizeAt w c < b → Back h j b p
     back-next p e l =

@@ -1,7 +1,7 @@
 // heaplog: runs a script of calls from standard input and prints a line for each. Reading and writing stand here; what a byte does stands in `script_run`.
 // Assumes nothing of its own: what io's reads and writes assume, libc says.
 ghost use Prim.Native.Nat.{_≤_};
-ghost use Rattle.script_run.specs.Run.{Lent};
+ghost use Rattle.script_run.specs.Run.{Buffers};
 use libc::STDIN_FILENO;
 use libc::STDOUT_FILENO;
 use script_run::Log;
@@ -14,7 +14,7 @@ fn feed_piece(
     control: &mut [u8],
     out: &mut [u8],
 ) -> Log
-    requires { ⌜ Lent (now arena) (now control) (now out) ⌝ }
+    requires { ⌜ Buffers (now arena) (now control) (now out) ⌝ }
     requires { ⌜ log .opened ≤ 49152 ⌝ }
     ensures { λ s. ⌜ s .opened ≤ 49152 ⌝ }
 {
@@ -30,7 +30,7 @@ fn feed_piece(
 
 // Reads one piece and feeds it; where the input ends, so does the run.
 fn turn(log: Log, arena: &mut [u8], control: &mut [u8], out: &mut [u8]) -> Log
-    requires { ⌜ Lent (now arena) (now control) (now out) ⌝ }
+    requires { ⌜ Buffers (now arena) (now control) (now out) ⌝ }
     requires { ⌜ log .opened ≤ 49152 ⌝ }
     ensures { λ s. ⌜ s .opened ≤ 49152 ⌝ }
 {

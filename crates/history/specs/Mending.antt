@@ -16,10 +16,10 @@ use Rattle.machine.specs.Lists.{cnt, cntAll}
 use Rattle.machine.specs.Count.{ind-same}
 use Rattle.machine.specs.Heap.{Tile, tile, Heap, binned, endFrom, startsFrom, topOf, topSize, starts, sizeOf}
 use Rattle.machine.specs.Calls.{heapIn}
-use Rattle.sound.specs.Relation.{all, fits, flags, tilesAt, Loose}
-use Rattle.sound.specs.Tiles.{lt-or-le, zero-or, fits-split, end-even, starts-append, starts-once, tiles-split}
+use Rattle.sound.specs.Relation.{all, tiled, flags, tilesAt, Loose}
+use Rattle.sound.specs.Tiles.{lt-or-le, zero-or, tiled-split, end-even, starts-append, starts-once, tiles-split}
 use Rattle.sound.specs.Frames.{starts-all}
-use Rattle.sound.specs.Edits.{size-at, snoc-end, snoc-tiles, fits-tiles, size-32}
+use Rattle.sound.specs.Edits.{size-at, snoc-end, snoc-tiles, tiled-tiles, size-32}
 use Rattle.sound.specs.Spares.{clear-of}
 use Rattle.sound.specs.RecordOf.{record-words}
 use Rattle.history.specs.Histories.{Block}
@@ -107,7 +107,7 @@ module _ (a r : List ℕ) (bs : List Block) (R : Ready a r bs) (E : (x : ℕ) �
       let e′ : h .tiles ≡ S .init ++ u ∷ Z = split-last (h .tiles) A Z (S .init) u e (S .tiles) in
       let d′ : all h ≡ S .init ++ u ∷ t ∷ z = split-last (all h) A (t ∷ z) (S .init) u d (S .tiles) in
       let j = adjacent (λ x. binned h x) 0 0 0 (S .init) u t z (subst (flags (λ x. binned h x) 0 0 0) d′ (R .sound .good .flag)) in
-      let f : fits (S .init) × fits (u ∷ Z) = fits-split (S .init) (u ∷ Z) (subst fits e′ (fits-tiles h (R .sound .good .shape))) in
+      let f : tiled (S .init) × tiled (u ∷ Z) = tiled-split (S .init) (u ∷ Z) (subst tiled e′ (tiled-tiles h (R .sound .good .shape))) in
       let q : endFrom 0 A ≡ y + u .size = end-last A (S .init) u (S .tiles) in
       let s : sizeOf h y ≡ u .size = size-at h (S .init) Z u e′ (f .0) in
       inr (
@@ -140,7 +140,7 @@ module _ (a r : List ℕ) (bs : List Block) (R : Ready a r bs) (E : (x : ℕ) �
   size-word : (A z : List Tile) (t : Tile) → all h ≡ A ++ t ∷ z → t .p ≡ 1 → endFrom 0 A + 32 ≤ length a → number 8 a (endFrom 0 A + 8) ≡ t .size + 1
   size-word A z t d p l =
       let f : ℕ = endFrom 0 A in
-      let k = fits-split A (t ∷ z) (subst fits d (R .sound .good .shape .fit)) in
+      let k = tiled-split A (t ∷ z) (subst tiled d (R .sound .good .shape .sizes)) in
       let v : f % 16 ≡ 0 = end-even 0 A refl (k .0) in
       let q : (f + 8) / 8 ≡ sizeWord f = omega arith in
       let w = tiles-split (arenaWords a) 0 A (t ∷ z) (subst (tilesAt (arenaWords a) 0) d (R .sound .mem .words)) in
@@ -165,11 +165,11 @@ module _ (a r : List ℕ) (bs : List Block) (R : Ready a r bs) (E : (x : ℕ) �
       let d : all h ≡ C .a ++ t ∷ (C .z ++ T ∷ []) = ap (λ (l : List Tile). l ++ T ∷ []) (C .tiles) ∙ append-assoc (C .a) (t ∷ C .z) (T ∷ []) in
       let o = flag-own (λ x. binned h x) 0 0 0 (C .a) t (C .z ++ T ∷ []) (subst (flags (λ x. binned h x) 0 0 0) d (g .flag)) in
       let p : t .p ≡ 1 = omega (arith, o .0, o .1) in
-      let k = fits-split (C .a) (t ∷ C .z) (subst fits (C .tiles) (fits-tiles h s)) in
+      let k = tiled-split (C .a) (t ∷ C .z) (subst tiled (C .tiles) (tiled-tiles h s)) in
       let z : sizeOf h f ≡ t .size = size-at h (C .a) (C .z) t (C .tiles) (k .0) in
       let n = back (C .a) (C .z) t (C .tiles) b in
       let e : f + t .size - f ≡ t .size = omega arith in
-      let once : binned h f ≡ 1 = omega (arith, s .own f, starts-once (h .tiles) 0 f (fits-tiles h s)) in
+      let once : binned h f ≡ 1 = omega (arith, s .own f, starts-once (h .tiles) 0 f (tiled-tiles h s)) in
       record {
         from = f;
         to = f + t .size;
@@ -182,7 +182,7 @@ module _ (a r : List ℕ) (bs : List Block) (R : Ready a r bs) (E : (x : ℕ) �
               let mc : 1 ≤ cnt c (starts h) = omega (arith, lo) in
               ⊎-elim
               (λ q. ⊎-elim (λ v. absurd (omega arith)) (λ v. ⊎-elim (λ y. absurd (omega arith)) (λ y. inr (omega (arith, z))) v) (clear-of h f c s m (omega (arith, starts-all h c))))
-              (λ q. ⊎-elim (λ v. absurd (omega (arith, lo, starts-once (h .tiles) 0 c (fits-tiles h s), ap (λ (y : ℕ). binned h y) v))) (λ v. inl v) q)
+              (λ q. ⊎-elim (λ v. absurd (omega (arith, lo, starts-once (h .tiles) 0 c (tiled-tiles h s), ap (λ (y : ℕ). binned h y) v))) (λ v. inl v) q)
               (clear-of h c f s mc (omega (arith, starts-all h f))));
           starts = front (C .a) (t ∷ C .z) (C .z ++ T ∷ []) t (C .tiles) d p;
           ends = inr (n .0);
@@ -231,7 +231,7 @@ module _ (a r : List ℕ) (bs : List Block) (R : Ready a r bs) (E : (x : ℕ) �
       let C = cover (h .tiles) 0 x (omega arith) l in
       let c : ℕ = endFrom 0 (C .a) in
       let m : 1 ≤ cnt c (starts h) = start-at h (C .a) (C .z) (C .t) (C .tiles) in
-      let k = fits-split (C .a) (C .t ∷ C .z) (subst fits (C .tiles) (fits-tiles h (R .sound .good .shape))) in
+      let k = tiled-split (C .a) (C .t ∷ C .z) (subst tiled (C .tiles) (tiled-tiles h (R .sound .good .shape))) in
       let z : sizeOf h c ≡ C .t .size = size-at h (C .a) (C .z) (C .t) (C .tiles) (k .0) in
       ⊎-elim (λ b. absurd (n (held-chunk c x m b (C .low) (omega (arith, z, C .high))))) (λ b. bin-part x C b) (zero-or (binned h c)))
       (λ l. top-part x l u)

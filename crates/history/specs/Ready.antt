@@ -22,7 +22,7 @@ use Rattle.machine.specs.Writes.{Write, apply}
 use Rattle.machine.specs.Calls.{heapIn, wordsOf}
 use Rattle.sound.specs.Relation.{Mem, Loose, Good, Sound}
 use Rattle.sound.specs.Tiles.{lt-or-le, starts-once}
-use Rattle.sound.specs.Edits.{fits-tiles}
+use Rattle.sound.specs.Edits.{tiled-tiles}
 use Rattle.sound.specs.RecordOf.{record-words}
 use Rattle.history.specs.Histories.{Block, drop, State, state}
 use Rattle.calls.specs.Results.{Lent}
@@ -69,7 +69,7 @@ held-once h bs g H m = ⊎-elim
     (λ l. omega (arith, H .low m l))
     (λ l.
     let e : m - 16 + 16 ≡ m = omega arith in
-    omega (arith, H .count (m - 16), ap (λ (n : ℕ). heldAt n bs) e, starts-once (h .tiles) 0 (m - 16) (fits-tiles h (g .shape))))
+    omega (arith, H .count (m - 16), ap (λ (n : ℕ). heldAt n bs) e, starts-once (h .tiles) 0 (m - 16) (tiled-tiles h (g .shape))))
     (lt-or-le m 16)
 
 pub sized-keep : (z z′ : ℕ → ℕ) (bs : List Block) → ((m : ℕ) → 1 ≤ heldAt m bs → z′ (m - 16) ≡ z (m - 16)) → Sized z bs → Sized z′ bs
@@ -130,7 +130,7 @@ left-ready a r L g ws bs F m H =
       holds = subst (λ (k : Heap). Holds k bs) (sym q) H;
     }
 
--- the last remainder that is read fits its word
+-- the last remainder that is read tiled its word
 pub ready-fine : (a r : List ℕ) (bs : List Block) → Ready a r bs → Fine (heapIn a r)
 ready-fine a r bs R = record {
   good = R .sound .good;

@@ -29,7 +29,7 @@ use Rattle.machine.specs.declared.Answer.the-variants.{Done}
 use Rattle.machine.specs.declared.Refusal.the-variants as N
 use Rattle.sound.specs.Tiles.{lt-or-le, start}
 use Rattle.sound.specs.Frames.{starts-all, apply-length}
-use Rattle.sound.specs.Edits.{fits-tiles, size-16}
+use Rattle.sound.specs.Edits.{tiled-tiles, size-16}
 use Rattle.sound.specs.Spares.{spared, clear-of}
 use Rattle.sound.specs.Moves.{nil, one, any, Moved}
 use Rattle.sound.specs.Leaves.{gave}
@@ -77,10 +77,10 @@ module _ (a r : List ℕ) (bs : List Block) (R : Ready a r bs) (m p : ℕ) (held
       let b = held-loose h bs (R .holds) m held in
       let c : ℕ = m - 16 in
       let i : 1 ≤ cnt c (starts h) = omega (arith, b .1) in
-      let even : c % 16 ≡ 0 = start (h .tiles) 0 c (fits-tiles h (g .shape)) i .even in
+      let even : c % 16 ≡ 0 = start (h .tiles) 0 c (tiled-tiles h (g .shape)) i .even in
       let wide : sizeOf h c % 16 ≡ 0 = size-16 h c (g .shape) i in
       let same = spared c (sizeOf h c) (writes x) (arenaWords a) (p / 8) (M .spare c (b .1) z) (omega (arith, use? .low, b .0)) (omega (arith, use? .high, b .0)) in
-      let fits : c + sizeOf h c ≤ topOf h = ⊎-elim
+      let tiled : c + sizeOf h c ≤ topOf h = ⊎-elim
       (λ k. absurd (omega (arith, start-most h g c i)))
       (λ k. ⊎-elim (λ l. absurd (omega (arith, start-most h g c i))) (λ l. l) k)
       (clear-of h c (topOf h) (g .shape) i (omega (arith, starts-all h (topOf h), ind-same (topOf h)))) in

@@ -21,7 +21,7 @@ use Rattle.machine.specs.Heap.{Heap, sizeOf}
 use Rattle.machine.specs.Calls.{heapIn, wordsOf}
 use Rattle.sound.specs.Relation.{Sound}
 use Rattle.sound.specs.Tiles.{lt-or-le, start}
-use Rattle.sound.specs.Edits.{fits-tiles, size-16}
+use Rattle.sound.specs.Edits.{tiled-tiles, size-16}
 use Rattle.sound.specs.Release.{both-true}
 use Rattle.audit.specs.Frame.{Usable, Agrees, frame-sound, frame-view}
 use Rattle.history.specs.Histories.{Block, usableAt?, holds?}
@@ -90,7 +90,7 @@ module _ (a r : List ℕ) (bs : List Block) (R : Ready a r bs) (p v : ℕ) (e : 
       let h : Heap = heapIn a r in
       let l = held-loose h bs (R .holds) (B .mem) (B .held) in
       let s = R .sound .good .shape in
-      let st = start (h .tiles) 0 (B .mem - 16) (fits-tiles h s) (omega (arith, l .1)) in
+      let st = start (h .tiles) 0 (B .mem - 16) (tiled-tiles h s) (omega (arith, l .1)) in
       (l .1, omega (arith, st .even, B .low, l .0), omega (arith, st .even, B .high, B .low, l .0, size-16 h (B .mem - 16) s (omega (arith, l .1))))
 
   agrees : Agrees (heapIn a r) (arenaWords a) (arenaWords (set a p (v % 256)))

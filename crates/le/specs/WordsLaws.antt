@@ -43,7 +43,7 @@ apart n i k ne = by (ltb i k) refl
 
 -- a number written at the word k is the word k
 pub words-put : (n m : ℕ) (l : List ℕ) (k v : ℕ) → k < m → n * k + n ≤ length l → v < 256 ^ n → words n m (put n l (n * k) v) ≡ set (words n m l) k v
-words-put n m l k v lt fits b =
+words-put n m l k v lt tiled b =
     sym (words-ext n m (put n l (n * k) v) (set (words n m l) k v)
     (length-set (words n m l) k v ∙ length-words n m l)
     (λ i h. at i h (eqb i k) refl))
@@ -51,7 +51,7 @@ words-put n m l k v lt fits b =
     at : (i : ℕ) → i < m → (t : Bool) → eqb i k ≡ t → getD (set (words n m l) k v) i 0 ≡ number n (put n l (n * k) v) (n * i)
     at i h true e =
         let q : i ≡ k = eqb-true i k e in
-        rw q (getD-set-same (words n m l) k v 0 (omega (arith, length-words n m l)) ∙ sym (number-put-same n l (n * k) v fits b))
+        rw q (getD-set-same (words n m l) k v 0 (omega (arith, length-words n m l)) ∙ sym (number-put-same n l (n * k) v tiled b))
     at i h false e =
         getD-set-other (words n m l) k i v 0 (eqb-false i k e)
         ∙ getD-words n m l i h

@@ -1,13 +1,14 @@
 -- The calls on bytes: what each answers and leaves in arena and record, refusals first and in their order. Definitions only.
 use mathlib.Core.List.{List, [], _∷_, _++_}
 use mathlib.Core.Bool.{Bool, true, false}
-use Prim.Native.Nat.{ℕ, _+_, _-_, _%_}
+use Prim.Native.Nat.{ℕ, _%_}
 use lib.Dec.{eqb, ltb, leb}
 use lib.ListN.{length, replicate}
 use Rattle.le.specs.Number.{words, bytes}
 use Rattle.le.specs.Arena.{arenaWords}
 use Rattle.sizes.specs.Limits.{leastArena, mostArena, mostRequest, recordWords, recordBytes, none32}
 use Rattle.sizes.specs.Sizes.{need, usable}
+use Rattle.sizes.specs.Offsets.{memOf, chunkOf}
 use Rattle.machine.specs.Lists.{both}
 use Rattle.machine.specs.Heap.{Heap, opened, sizeOf, live?, recordOf}
 use Rattle.machine.specs.Writes.{Write, size, apply, Ran, ran}
@@ -101,7 +102,7 @@ openCall a r = elim (eqb (length r) recordBytes) [
 
 -- ---- grant: numbers 1, 2, 3; number 5 leaves what the steps did before it
 abbrev pub granted : List ℕ → Ran Got → After
-granted a (ran h ws (At c)) = left a h ws (Granted (c + 16) (usable (sizeOf h c)))
+granted a (ran h ws (At c)) = left a h ws (Granted (memOf c) (usable (sizeOf h c)))
 granted a (ran h ws Nothing) = left a h ws (Refused R.NoRoom)
 
 -- of good shape, number 2 comes before number 3
@@ -116,8 +117,8 @@ unfoldable pub releaseCall : List ℕ → List ℕ → ℕ → After
 releaseCall a r m = onSound a r (λ h.
     elim (eqb m 0) [
       | true ↦ after a r Done
-      | false ↦ elim (both (leb 16 m) (live? h (m - 16))) [
-        | true ↦ done a (release (m - 16) h)
+      | false ↦ elim (both (leb 16 m) (live? h (chunkOf m))) [
+        | true ↦ done a (release (chunkOf m) h)
         | false ↦ refused a r R.NotLive
       ]
     ])

@@ -20,10 +20,10 @@ use Rattle.machine.proofs.Script.{Line, G, R, S, same?}
 pub data Printed : Type 0 where
   printed : List ℕ → List ℕ → List ℕ → Printed
 
-abbrev pub callOf : Line → List ℕ → List ℕ → After
-callOf (G n) a r = grantCall a r n
-callOf (R m) a r = releaseCall a r m
-callOf S a r = settleCall a r
+abbrev pub exampleCall : Line → List ℕ → List ℕ → After
+exampleCall (G n) a r = grantCall a r n
+exampleCall (R m) a r = releaseCall a r m
+exampleCall S a r = settleCall a r
 
 abbrev pub line : Answer → List ℕ → List ℕ
 line x r = answerNumbers x .no ∷ answerNumbers x .mem ∷ answerNumbers x .usable ∷ number 4 r 4 ∷ []
@@ -36,7 +36,7 @@ goOn (after a r x) f = print (line x r) (f a r)
 
 abbrev pub runBytes : List Line → List ℕ → List ℕ → Printed
 runBytes [] a r = printed [] a r
-runBytes (l ∷ ls) a r = goOn (callOf l a r) (λ b s. runBytes ls b s)
+runBytes (l ∷ ls) a r = goOn (exampleCall l a r) (λ b s. runBytes ls b s)
 
 -- opened on an arena of n bytes, all equal to x, and a record of bytes x
 unfoldable pub scriptBytes : ℕ → ℕ → List Line → Printed

@@ -23,7 +23,7 @@ use Rattle.sound.specs.Lists.{cut, cut-cnt, lst-append, lst-in, links-split, in
 use Rattle.sound.specs.RecordOf.{record-binFirst, record-binLast, record-withBin}
 use Rattle.primitives.specs.Follow.{Ok, Gave, Does}
 use Rattle.primitives.specs.Places.{Gap, InBin, Home, home-in}
-use Rattle.primitives.specs.Chunks.{Chunk, Chunks, Inside, in-bytes, loose-chunk, bin-chunk, down-chunk, up-hd, down-hd, down-lst, hd-fits, lst-fits}
+use Rattle.primitives.specs.Chunks.{Chunk, Chunks, Inside, in-bytes, loose-chunk, bin-chunk, down-chunk, up-hd, down-hd, down-lst, hd-narrow, lst-narrow}
 use Rattle.primitives.specs.Ends.{linkFwd, linkBack, linkEnd, binBy, Leads, linkFwd-some, linkBack-some, linkEnd-some, binBy-same, binBy-other, not-none, fwd-words, back-words, hd-leads, lst-leads, end-set}
 
 -- ---- a part whose end is none has no chunk
@@ -55,15 +55,15 @@ lst-has (x ∷ l) c b e = subst (λ (c : ℕ). 1 ≤ cnt c (x ∷ l)) e (lst-in 
 pub record Ready (m p n : ℕ) : Type 0 where
   pub pin : Leads m p
   pub nin : Leads m n
-  pub pfit : down p < 2 ^ 32
-  pub nfit : down n < 2 ^ 32
+  pub pnarrow : down p < 2 ^ 32
+  pub nnarrow : down n < 2 ^ 32
 
 pub ready : (a xs ys : List ℕ) → Chunks (arenaWords a) xs → Chunks (arenaWords a) ys → Ready (length a) (lst none64 xs) (hd none64 ys)
 ready a xs ys kx ky = record {
   pin = lst-leads a xs kx;
   nin = hd-leads a ys ky;
-  pfit = rw (down-lst (arenaWords a) xs kx) (lst-fits (arenaWords a) xs kx);
-  nfit = rw (down-hd (arenaWords a) ys ky) (hd-fits (arenaWords a) ys ky);
+  pnarrow = rw (down-lst (arenaWords a) xs kx) (lst-narrow (arenaWords a) xs kx);
+  nnarrow = rw (down-hd (arenaWords a) ys ky) (hd-narrow (arenaWords a) ys ky);
 }
 
 -- what the links of c, which bin j has, say
@@ -108,8 +108,8 @@ module _ (h : Heap) (w r : List ℕ) (o : Ok h w r) where
   pub gap-high : (j : ℕ) (xs ys : List ℕ) (p n : ℕ) → Gap h j xs ys p n → Chunks w ys
   gap-high j xs ys p n g x i = ok-bin j x (omega (arith, gap-cnt j xs ys p n g x))
 
-  pub loose-fits : (c : ℕ) → Loose h c → down c < 2 ^ 32
-  loose-fits c lo = let k = loose-chunk h w (o .shape) (o .mem) c lo in rw (down-chunk w c k) (omega (arith, k .small))
+  pub loose-narrow : (c : ℕ) → Loose h c → down c < 2 ^ 32
+  loose-narrow c lo = let k = loose-chunk h w (o .shape) (o .mem) c lo in rw (down-chunk w c k) (omega (arith, k .small))
 
   pub link-in-gave : (j c p n : ℕ) (xs ys v₁ v₂ v₃ v q₁ q : List ℕ) → 1 ≤ j → j ≤ 126 → Loose h c → Gap h j xs ys p n
       → v₁ ≡ put (fwd c n) w → v₂ ≡ put (back c p) v₁
@@ -159,7 +159,7 @@ module _ (h : Heap) (w r : List ℕ) (o : Ok h w r) where
   -- no other bin has c
   pub one-bin : (i j c : ℕ) → 1 ≤ cnt c (bin h j) → 1 ≤ cnt c (bin h i) → i ≡ j
   one-bin i j c mj mi =
-      let g : Grid (Starts h) (length w) = grid h (length w) (o .shape .fit) (o .mem .long) in
+      let g : Grid (Starts h) (length w) = grid h (length w) (o .shape .sizes) (o .mem .long) in
       ⊎-elim (λ e. e) (λ ne. absurd (omega (arith, o .shape .own c, starts-all h c, g .once c, cnt-two c (h .bins) i j ne))) (eq? i j)
 
   pub bin-below : (j c : ℕ) → 1 ≤ cnt c (bin h j) → j ≤ 126

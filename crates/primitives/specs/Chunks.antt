@@ -40,14 +40,14 @@ in-bytes a c k = record { even = k .even; high = omega (arith, k .inside, length
 module _ (h : Heap) (w : List ℕ) (s : Shape h) (m : Mem h w) where
   pub start-chunk : (c : ℕ) → 1 ≤ cnt c (Starts h) → Chunk w c
   start-chunk c i =
-      let g : Grid (Starts h) (length w) = grid h (length w) (s .fit) (m .long) in
+      let g : Grid (Starts h) (length w) = grid h (length w) (s .sizes) (m .long) in
       let e : c % 16 ≡ 0 = g .even c i in
       let n : c / 8 + 4 ≤ length w = g .inside c i in
       record { even = e; inside = omega arith; small = omega (arith, m .long, s .small) }
 
   -- a list of chunks is no longer than the words: each chunk has four of them
   pub list-short : (l : List ℕ) → ((x : ℕ) → cnt x l ≤ cnt x (starts h)) → length l ≤ length w
-  list-short l c = omega (arith, pigeons l (Starts h) (λ x. omega (arith, c x, starts-all h x)), starts-length 0 (all h) (s .fit), end-all h (s .fit), m .long)
+  list-short l c = omega (arith, pigeons l (Starts h) (λ x. omega (arith, c x, starts-all h x)), starts-length 0 (all h) (s .sizes), end-all h (s .sizes), m .long)
 
   pub loose-chunk : (c : ℕ) → Loose h c → Chunk w c
   loose-chunk c l = start-chunk c (omega (arith, starts-all h c))
@@ -77,20 +77,20 @@ pub down-lst : (w l : List ℕ) → Chunks w l → down (lst none64 l) ≡ lst n
 down-lst w [] k = refl
 down-lst w (x ∷ l) k = down-chunk w (lst x l) (k (lst x l) (lst-in x l))
 
-pub hd-fits : (w l : List ℕ) → Chunks w l → hd none32 l < 2 ^ 32
-hd-fits w [] k = omega arith
-hd-fits w (x ∷ l) k = omega (arith, k x (cnt-here x l) .small)
+pub hd-narrow : (w l : List ℕ) → Chunks w l → hd none32 l < 2 ^ 32
+hd-narrow w [] k = omega arith
+hd-narrow w (x ∷ l) k = omega (arith, k x (cnt-here x l) .small)
 
-pub lst-fits : (w l : List ℕ) → Chunks w l → lst none32 l < 2 ^ 32
-lst-fits w [] k = omega arith
-lst-fits w (x ∷ l) k = omega (arith, k (lst x l) (lst-in x l) .small)
+pub lst-narrow : (w l : List ℕ) → Chunks w l → lst none32 l < 2 ^ 32
+lst-narrow w [] k = omega arith
+lst-narrow w (x ∷ l) k = omega (arith, k (lst x l) (lst-in x l) .small)
 
 -- ---- the head of a list that has one
 pub record Head (w l : List ℕ) : Type 0 where
   pub here : Chunk w (hd none32 l)
   pub same : hd none64 l ≡ hd none32 l
   pub next : down (getD w (fwdWord (hd none32 l)) 0) ≡ hd none32 (tl l)
-  pub fits : down (getD w (fwdWord (hd none32 l)) 0) < 2 ^ 32
+  pub narrow : down (getD w (fwdWord (hd none32 l)) 0) < 2 ^ 32
   pub more : length l ≡ suc (length (tl l))
 
 pub head : (w l : List ℕ) → some? l ≡ true → Chunks w l → chain w l → Head w l
@@ -98,7 +98,7 @@ head w [] e k c = let z : _≡_ {A = ℕ} 0 1 = cc in absurd (omega arith)
 head w (x ∷ l) e k c =
     let t : Chunks w l = λ y i. k y (omega arith) in
     let d : down (getD w (fwdWord x) 0) ≡ hd none32 l = ap down (c .0) ∙ down-hd w l t in
-    record { here = k x (cnt-here x l); same = refl; next = d; fits = rw d (hd-fits w l t); more = refl }
+    record { here = k x (cnt-here x l); same = refl; next = d; narrow = rw d (hd-narrow w l t); more = refl }
 
 -- ---- along the links the walk finds the list, if it may go that far
 pub walk-list : (n : ℕ) (w l : List ℕ) → length l ≤ n → Chunks w l → chain w l → chunksFrom n w (hd none64 l) ≡ l

@@ -11,9 +11,9 @@ use Rattle.machine.specs.Heap.{Tile, tile, Heap, endFrom, since, upTo, edit, to
 use Rattle.machine.specs.Writes.{size, put}
 use Rattle.machine.specs.Primitives.{markT, setP}
 use Rattle.machine.specs.View.{sizeAt}
-use Rattle.sound.specs.Relation.{fits, tilesAt, Mem, Shape}
-use Rattle.sound.specs.Tiles.{fits-split, end-append, place, tiles-split}
-use Rattle.sound.specs.Edits.{tiles-at, size-at, fits-tiles}
+use Rattle.sound.specs.Relation.{tiled, tilesAt, Mem, Shape}
+use Rattle.sound.specs.Tiles.{tiled-split, end-append, place, tiles-split}
+use Rattle.sound.specs.Edits.{tiles-at, size-at, tiled-tiles}
 use Rattle.sound.specs.RecordOf.{record-top, record-withTiles, set-id}
 use Rattle.primitives.specs.Follow.{Ok, Gave}
 
@@ -31,7 +31,7 @@ module _ (h : Heap) (s : Shape h) where
     unfolding top-tile
     place-says a z t e =
         let k : tilesAt w 0 a × tilesAt w (endFrom 0 a) (t ∷ z) = tiles-split w 0 a (t ∷ z) (subst (tilesAt w 0) e (tiles-split w 0 (h .tiles) top-tile (m .words) .0)) in
-        let f : fits a × fits (t ∷ z) = fits-split a (t ∷ z) (subst fits e (fits-tiles h s)) in
+        let f : tiled a × tiled (t ∷ z) = tiled-split a (t ∷ z) (subst tiled e (tiled-tiles h s)) in
         let u : pOf h (endFrom 0 a) ≡ t .p = ap hdP (tiles-at h a (t ∷ z) e (f .0) .1) in
         let z : sizeOf h (endFrom 0 a) ≡ t .size = size-at h a z t e (f .0) in
         record { size = omega (arith, k .1 .0, f .1 .0, f .1 .2); p = omega (arith, k .1 .0, f .1 .0, f .1 .2) }
@@ -41,7 +41,7 @@ module _ (h : Heap) (s : Shape h) where
 
     top-word : (getD w (sizeWord (topOf h)) 0 ≡ topSize h + 1) × (topSize h % 16 ≡ 0)
     unfolding top-tile
-    top-word = (tiles-split w 0 (h .tiles) top-tile (m .words) .1 .0, fits-split (h .tiles) top-tile (s .fit) .1 .0)
+    top-word = (tiles-split w 0 (h .tiles) top-tile (m .words) .1 .0, tiled-split (h .tiles) top-tile (s .sizes) .1 .0)
 
     pub top-size : sizeAt w (topOf h) ≡ topSize h
     top-size = omega (arith, top-word .0, top-word .1)
@@ -49,7 +49,7 @@ module _ (h : Heap) (s : Shape h) where
   -- ---- a mark of a chunk keeps where the tiles end
   place-end : (a z : List Tile) (t : Tile) (b k : ℕ) → h .tiles ≡ a ++ t ∷ z → topOf (edit (endFrom 0 a) (markT b k) h) ≡ topOf h
   place-end a z t b k e =
-      let f = fits-split a (t ∷ z) (subst fits e (fits-tiles h s)) in
+      let f = tiled-split a (t ∷ z) (subst tiled e (tiled-tiles h s)) in
       let u = tiles-at h a (t ∷ z) e (f .0) in
       ap (λ (l : List Tile). endFrom 0 (l ++ markT b k (since 0 (endFrom 0 a) (h .tiles)))) (u .0) ∙ ap (λ (l : List Tile). endFrom 0 (a ++ markT b k l)) (u .1)
       ∙ end-append 0 a (tile (t .size) b k ∷ z) ∙ sym (end-append 0 a (t ∷ z)) ∙ ap (endFrom 0) (sym e)

@@ -43,8 +43,8 @@ module _ (h : Heap) (w r : List ℕ) (o : Ok h w r) where
   taken-next : (k c x y : ℕ) → some? (stack h k) ≡ true → c ≡ hd none32 (stack h k) → x ≡ getD w (fwdWord c) 0 → y ≡ down x → y ≡ hd none32 (tl (stack h k))
   taken-next k c x y e q f g = g ∙ ap down f ∙ ap (λ (c : ℕ). down (getD w (fwdWord c) 0)) q ∙ ok-head k e .next
 
-  taken-fits : (k c x : ℕ) → some? (stack h k) ≡ true → c ≡ hd none32 (stack h k) → x ≡ getD w (fwdWord c) 0 → down x < 2 ^ 32
-  taken-fits k c x e q f = rw (f, q) (ok-head k e .fits)
+  taken-narrow : (k c x : ℕ) → some? (stack h k) ≡ true → c ≡ hd none32 (stack h k) → x ≡ getD w (fwdWord c) 0 → down x < 2 ^ 32
+  taken-narrow k c x e q f = rw (f, q) (ok-head k e .narrow)
 
   taken-says : (k c : ℕ) → some? (stack h k) ≡ true → c ≡ hd none32 (stack h k) → _≡_ {A = Got} (At (hd none64 (stack h k))) (At c)
   taken-says k c e q = ap (λ (c : ℕ). At c) (ok-head k e .same ∙ sym q)
@@ -62,8 +62,8 @@ module _ (h : Heap) (w r : List ℕ) (o : Ok h w r) where
             ∙ sym (record-withCache h (o .shape .stacked74) (o .shape .binned127) k l hk);
       }
 
-  pub cache-fits : (k x : ℕ) → k < 64 → some? (stack h k) ≡ true → x ≡ getD w (fwdWord (getD r (cacheHead k) 0)) 0 → down x < 2 ^ 32
-  cache-fits k x hk e f = taken-fits k (getD r (cacheHead k) 0) x e (ok-cacheHead k hk) f
+  pub cache-narrow : (k x : ℕ) → k < 64 → some? (stack h k) ≡ true → x ≡ getD w (fwdWord (getD r (cacheHead k) 0)) 0 → down x < 2 ^ 32
+  cache-narrow k x hk e f = taken-narrow k (getD r (cacheHead k) 0) x e (ok-cacheHead k hk) f
 
   pub cache-some : (k : ℕ) → k < 64 → some? (stack h k) ≡ true → 1 ≤ getD r (cacheCount k) 0
   cache-some k hk e = omega (arith, ok-cacheCount k hk, ok-head k e .more)
@@ -93,8 +93,8 @@ module _ (h : Heap) (w r : List ℕ) (o : Ok h w r) where
         rec = f ∙ ap (λ (r : List ℕ). set r (fastHead k) c) (o .rec) ∙ sym (record-withFast h (o .shape .stacked74) (o .shape .binned127) k (c ∷ stack h (fastAt k)) hk);
       }
 
-  pub fast-fits : (k x : ℕ) → k < 10 → some? (stack h (fastAt k)) ≡ true → x ≡ getD w (fwdWord (getD r (fastHead k) 0)) 0 → down x < 2 ^ 32
-  fast-fits k x hk e f = taken-fits (fastAt k) (getD r (fastHead k) 0) x e (ok-fastHead k hk) f
+  pub fast-narrow : (k x : ℕ) → k < 10 → some? (stack h (fastAt k)) ≡ true → x ≡ getD w (fwdWord (getD r (fastHead k) 0)) 0 → down x < 2 ^ 32
+  fast-narrow k x hk e f = taken-narrow (fastAt k) (getD r (fastHead k) 0) x e (ok-fastHead k hk) f
 
   pub take-fast-gave : (k c x y : ℕ) (q : List ℕ) → k < 10 → some? (stack h (fastAt k)) ≡ true → c ≡ getD r (fastHead k) 0 → x ≡ getD w (fwdWord c) 0 → y ≡ down x
       → q ≡ set r (fastHead k) y → Gave Got (pop (fastAt k) h) (At c) w w q

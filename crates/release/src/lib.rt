@@ -56,13 +56,9 @@ pub fn release(a: &mut [u8], r: &mut [u32], c: Chunk) -> Changed
     ensures { λ x. ⌜ Changes x (now (r .entry)) (now (r .exit)) ⌝ }
 {
     let offered = to_cache(a, r, c);
-    match offered {
-        Offered::On(k) => {
-            return Changed::CacheList(k);
-        }
-        Offered::NoRoom => {
-            release_past(a, r, c);
-            return Changed::Any;
-        }
+    if let Offered::On(k) = offered {
+        return Changed::CacheList(k);
     }
+    release_past(a, r, c);
+    Changed::Any
 }

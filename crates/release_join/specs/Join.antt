@@ -14,9 +14,9 @@ use Rattle.machine.specs.Heap.{Tile, Heap, endFrom, startsFrom, topSize, sizeOf
 use Rattle.machine.specs.Writes.{heapOf, _>>=_}
 use Rattle.machine.specs.Release.{absorb, joinNext, putDown, join}
 use Rattle.machine.specs.View.{sizeAt}
-use Rattle.sound.specs.Relation.{fits, Loose, Good}
-use Rattle.sound.specs.Tiles.{fits-split, starts-once, Place}
-use Rattle.sound.specs.Edits.{tiles-at, size-at, snoc-end, snoc-tiles, fits-tiles}
+use Rattle.sound.specs.Relation.{tiled, Loose, Good}
+use Rattle.sound.specs.Tiles.{tiled-split, starts-once, Place}
+use Rattle.sound.specs.Edits.{tiles-at, size-at, snoc-end, snoc-tiles, tiled-tiles}
 use Rattle.sound.specs.Flags.{lastS}
 use Rattle.sound.specs.Ends.{Ends, ends-weaken}
 use Rattle.sound.specs.Join.{Joined, Opened, next-ends, Before, before-of, lst-starts, open-flags, gap-here, prev-ends, join-here, join-prev}
@@ -67,10 +67,10 @@ module _ (h : Heap) (w r : List ℕ) (c y : ℕ) (o : Ok h w r) (g : Good h) (lo
   at-reads = loose-reads h w r o c lo .reads
 
   none : total (endFrom 0 (at .a)) h ≡ 0
-  none = omega (arith, lo, starts-once (h .tiles) 0 c (fits-tiles h (g .shape)), ap (λ (x : ℕ). total x h) (at .at))
+  none = omega (arith, lo, starts-once (h .tiles) 0 c (tiled-tiles h (g .shape)), ap (λ (x : ℕ). total x h) (at .at))
 
-  fit : fits (at .a) × fits (at .t ∷ at .z)
-  fit = fits-split (at .a) (at .t ∷ at .z) (subst fits (at .tiles) (fits-tiles h (g .shape)))
+  halves : tiled (at .a) × tiled (at .t ∷ at .z)
+  halves = tiled-split (at .a) (at .t ∷ at .z) (subst tiled (at .tiles) (tiled-tiles h (g .shape)))
 
   p-is : pOf h c ≡ y % 2
   p-is = loose-reads h w r o c lo .p ∙ ap (λ (y : ℕ). y % 2) (sym ey)
@@ -111,9 +111,9 @@ module _ (h : Heap) (w r : List ℕ) (c y : ℕ) (o : Ok h w r) (g : Good h) (lo
             let eq : c - d ≡ x = omega (arith, at .at) in
             let e₀ : h .tiles ≡ B .a₀ ++ B .s ∷ t ∷ at .z = at .tiles ∙ ap (λ (l : List Tile). l ++ t ∷ at .z) (B .tiles)
             ∙ snoc-tiles (B .a₀) (t ∷ at .z) (B .s) in
-            let f : fits (B .a₀) × fits (B .s ∷ t ∷ at .z) = fits-split (B .a₀) (B .s ∷ t ∷ at .z) (subst fits e₀ (fits-tiles h (g .shape))) in
+            let f : tiled (B .a₀) × tiled (B .s ∷ t ∷ at .z) = tiled-split (B .a₀) (B .s ∷ t ∷ at .z) (subst tiled e₀ (tiled-tiles h (g .shape))) in
             let eb : before h c ≡ c - d =
-            ap (before h) (at .at) ∙ ap (λ (l : List Tile). lst 0 (startsFrom 0 l)) (tiles-at h a (t ∷ at .z) (at .tiles) (fit .0) .0 ∙ B .tiles)
+            ap (before h) (at .at) ∙ ap (λ (l : List Tile). lst 0 (startsFrom 0 l)) (tiles-at h a (t ∷ at .z) (at .tiles) (halves .0) .0 ∙ B .tiles)
             ∙ lst-starts 0 0 (B .a₀) (B .s) ∙ sym eq in
             record {
               low = omega (arith, at .at);

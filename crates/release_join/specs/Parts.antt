@@ -20,13 +20,13 @@ use Rattle.machine.specs.Writes.{Write, size, note, put, apply, Ran, heapOf, wr
 use Rattle.machine.specs.Primitives.{putFirst, unlink, swallow, clearP, toTop}
 use Rattle.machine.specs.Release.{absorb, joinNext, putDown}
 use Rattle.machine.specs.View.{sizeAt}
-use Rattle.sound.specs.Relation.{fits, flags, Mem, Shape, Loose, Homes}
-use Rattle.sound.specs.Tiles.{zero-or, fits-split, end-le, end-append, starts-append}
+use Rattle.sound.specs.Relation.{tiled, flags, Mem, Shape, Loose, Homes}
+use Rattle.sound.specs.Tiles.{zero-or, tiled-split, end-le, end-append, starts-append}
 use Rattle.sound.specs.Frames.{apply-length}
 use Rattle.sound.specs.Lists.{unlink-shape}
-use Rattle.sound.specs.Edits.{size-at, snoc-end, snoc-tiles, top-mid, Kept, fits-tiles, swallow-is, clear-is, clear-kept, to-top-is}
+use Rattle.sound.specs.Edits.{size-at, snoc-end, snoc-tiles, top-mid, Kept, tiled-tiles, swallow-is, clear-is, clear-kept, to-top-is}
 use Rattle.sound.specs.Flags.{flagsAfter}
-use Rattle.sound.specs.Join.{bin-has, Gap, next-no, next-yes, down-top, down-bin}
+use Rattle.sound.specs.Join.{bin-has, Joining, next-no, next-yes, down-top, down-bin}
 use Rattle.sound.specs.RecordOf.{record-withTiles, record-tiles}
 use Rattle.primitives.specs.Follow.{Ok, Has, Gave, Does}
 use Rattle.primitives.specs.FollowLaws.{gave-none, gave-by, gave-then, gave-giving, ok-len, ok-top}
@@ -118,7 +118,7 @@ module _ (h : Heap) (w r : List ℕ) (c z : ℕ) (o : Ok h w r) (O : Open h c) (
   abbrev T : Tile
   T = tile (topSize h) 1 0
 
-  gap : Gap h (O .a) (O .now .t) (O .now .r) (O .n)
+  gap : Joining h (O .a) (O .now .t) (O .now .r) (O .n)
   gap = O .now .gap
 
   here : Reads w c (O .now .t)
@@ -129,7 +129,7 @@ module _ (h : Heap) (w r : List ℕ) (c z : ℕ) (o : Ok h w r) (O : Open h c) (
 
   size-is : sizeOf h c ≡ z
   size-is = ap (sizeOf h) (O .at) ∙ size-at h a (O .now .r) t (gap .tiles)
-      (fits-split a (t ∷ O .now .r) (subst fits (gap .tiles) (fits-tiles h (o .shape))) .0) ∙ sym (ez ∙ here .size)
+      (tiled-split a (t ∷ O .now .r) (subst tiled (gap .tiles) (tiled-tiles h (o .shape))) .0) ∙ sym (ez ∙ here .size)
 
   next-is : next h c ≡ c + z
   next-is = ap (λ (z : ℕ). c + z) size-is
@@ -222,8 +222,8 @@ module _ (h : Heap) (w r : List ℕ) (c z : ℕ) (o : Ok h w r) (O : Open h c) (
     pub next-taking : p ≡ false → Taking h (c + z) y c (z + y)
     next-taking e =
         let B = beyond ne in
-        let f : fits (a ++ t ∷ []) × fits (B .u ∷ B .y) =
-        fits-split (a ++ t ∷ []) (B .u ∷ B .y) (subst fits (B .tiles ∙ sym (snoc-tiles a (B .u ∷ B .y) t)) (fits-tiles h (o .shape))) in
+        let f : tiled (a ++ t ∷ []) × tiled (B .u ∷ B .y) =
+        tiled-split (a ++ t ∷ []) (B .u ∷ B .y) (subst tiled (B .tiles ∙ sym (snoc-tiles a (B .u ∷ B .y) t)) (tiled-tiles h (o .shape))) in
         record {
           a = a;
           t = t;
@@ -267,7 +267,7 @@ module _ (h : Heap) (w r : List ℕ) (c z : ℕ) (o : Ok h w r) (O : Open h c) (
       go (u ∷ y) e =
           let a₁ : List Tile = a ++ t ∷ [] in
           let e₁ : h .tiles ≡ a₁ ++ u ∷ y = gap .tiles ∙ ap (λ (r : List Tile). a ++ t ∷ r) e ∙ sym (snoc-tiles a (u ∷ y) t) in
-          let f : fits a₁ × fits (u ∷ y) = fits-split a₁ (u ∷ y) (subst fits e₁ (fits-tiles h (o .shape))) in
+          let f : tiled a₁ × tiled (u ∷ y) = tiled-split a₁ (u ∷ y) (subst tiled e₁ (tiled-tiles h (o .shape))) in
           absurd (omega (arith, top, ap (endFrom 0) e₁, end-append 0 a₁ (u ∷ y), after-is, end-le (endFrom 0 a₁ + u .size) y, f .1 .1))
 
   -- it does not: the next P is cleared, and it goes first in unsorted

@@ -11,10 +11,10 @@ use Rattle.le.specs.ArenaLaws.{length-arenaWords}
 use Rattle.sizes.specs.Layout.{prevWord, sizeWord}
 use Rattle.machine.specs.Heap.{Tile, tile, Heap, endFrom, since, hdSize, hdP, topOf, topSize, sizeOf, pOf, binned}
 use Rattle.machine.specs.View.{sizeAt}
-use Rattle.sound.specs.Relation.{all, fits, tilesAt, Loose}
-use Rattle.sound.specs.Tiles.{fits-split, end-le, end-even, end-append, none-out, Place, place, tiles-split}
+use Rattle.sound.specs.Relation.{all, tiled, tilesAt, Loose}
+use Rattle.sound.specs.Tiles.{tiled-split, end-le, end-even, end-append, none-out, Place, place, tiles-split}
 use Rattle.sound.specs.Frames.{end-all}
-use Rattle.sound.specs.Edits.{tiles-at, fits-tiles}
+use Rattle.sound.specs.Edits.{tiles-at, tiled-tiles}
 use Rattle.primitives.specs.Follow.{Ok}
 use Rattle.primitives.specs.Chunks.{Inside}
 
@@ -42,8 +42,8 @@ module _ (h : Heap) (w r : List ℕ) (o : Ok h w r) where
       let c : ℕ = endFrom 0 a in
       let s = o .shape in
       let k : tilesAt w 0 a × tilesAt w c (t ∷ z) = tiles-split w 0 a (t ∷ z) (subst (tilesAt w 0) e (o .mem .words)) in
-      let f : fits a × fits (t ∷ z) = fits-split a (t ∷ z) (subst fits e (s .fit)) in
-      let n : endFrom (c + t .size) z ≡ h .len = sym (end-append 0 a (t ∷ z)) ∙ ap (endFrom 0) (sym e) ∙ end-all h (s .fit) in
+      let f : tiled a × tiled (t ∷ z) = tiled-split a (t ∷ z) (subst tiled e (s .sizes)) in
+      let n : endFrom (c + t .size) z ≡ h .len = sym (end-append 0 a (t ∷ z)) ∙ ap (endFrom 0) (sym e) ∙ end-all h (s .sizes) in
       record {
         size = omega (arith, k .1 .0, f .1 .0, f .1 .2);
         p = omega (arith, k .1 .0, f .1 .0, f .1 .2);
@@ -58,7 +58,7 @@ module _ (h : Heap) (w r : List ℕ) (o : Ok h w r) where
 
   -- the top is in no bin
   pub top-free : binned h (topOf h) ≡ 0
-  top-free = omega (arith, o .shape .own (topOf h), none-out (h .tiles) 0 (topOf h) (fits-tiles h (o .shape)) (inr (omega arith)))
+  top-free = omega (arith, o .shape .own (topOf h), none-out (h .tiles) 0 (topOf h) (tiled-tiles h (o .shape)) (inr (omega arith)))
 
   -- a loose chunk as the code reads it
   pub record LooseReads (c : ℕ) : Type 0 where
@@ -74,13 +74,13 @@ module _ (h : Heap) (w r : List ℕ) (o : Ok h w r) where
       go P =
           let k : Reads w c (P .t) = subst (λ (c : ℕ). Reads w c (P .t)) (sym (P .at))
           (reads (P .a) (P .z ++ tile (topSize h) 1 0 ∷ []) (P .t) (all-at h (P .a) (P .t ∷ P .z) (P .tiles))) in
-          let f : fits (P .a) × fits (P .t ∷ P .z) = fits-split (P .a) (P .t ∷ P .z) (subst fits (P .tiles) (fits-tiles h (o .shape))) in
+          let f : tiled (P .a) × tiled (P .t ∷ P .z) = tiled-split (P .a) (P .t ∷ P .z) (subst tiled (P .tiles) (tiled-tiles h (o .shape))) in
           let s : since 0 c (h .tiles) ≡ P .t ∷ P .z = ap (λ (c : ℕ). since 0 c (h .tiles)) (P .at) ∙ tiles-at h (P .a) (P .t ∷ P .z) (P .tiles) (f .0) .1 in
           record { place = P; reads = k; size = ap hdSize s ∙ sym (k .size); p = ap hdP s ∙ sym (k .p) }
 
 -- the words do not reach past the bytes
-pub arena-fits : (a : List ℕ) → 8 * length (arenaWords a) ≤ length a
-arena-fits a = omega (arith, length-arenaWords a)
+pub arena-words-within : (a : List ℕ) → 8 * length (arenaWords a) ≤ length a
+arena-words-within a = omega (arith, length-arenaWords a)
 
 -- a chunk's size word lies inside
 pub size-inside : {m c : ℕ} → Inside m c → (c % 8 ≡ 0) × (c + 16 ≤ m)

@@ -15,9 +15,9 @@ use Rattle.script.specs.Grammar.{lineOf}
 use Rattle.script.specs.declared.Line.{Line}
 use Rattle.script.specs.declared.Line.the-variants.{Open, Grant, Release, Settle, Other}
 use Rattle.script_format.specs.Format.{answerText, questionText}
-use Rattle.script_run.specs.Run.{run, Step, step, callOf, called, lengthOf, topAfter, ranStep, counted, placedStep, lineStep, byteStep, endStep}
+use Rattle.script_run.specs.Run.{run, Step, step, lineCall, called, lengthOf, topAfter, ranStep, counted, placedStep, lineStep, byteStep, endStep}
 
-pub within : (a r : List ℕ) (n : ℕ) (l : Line) {b s : List ℕ} {x : Answer} → after b s x ≡ callOf (take n a) r l → after (b ++ drop n a) s x ≡ called a r n l
+pub within : (a r : List ℕ) (n : ℕ) (l : Line) {b s : List ℕ} {x : Answer} → after b s x ≡ lineCall (take n a) r l → after (b ++ drop n a) s x ≡ called a r n l
 unfolding called
 within a r n l e = rw (← e)
 
@@ -52,16 +52,16 @@ unfolding lineStep
 questioned a r t j n e {k} {l} p q i s u = rw (s, u, ← p, ← q) (sym (out-of-place a r t j n k e l i))
 
 -- an open in its place is of what heaplog has
-pub opened-fits : (k n : ℕ) (l : Line) → inPlace? k l ≡ true → n ≤ 49152 → lengthOf l n ≤ 49152
-opened-fits k n (Open m) e h = go (first? k) e
+pub opened-within : (k n : ℕ) (l : Line) → inPlace? k l ≡ true → n ≤ 49152 → lengthOf l n ≤ 49152
+opened-within k n (Open m) e h = go (first? k) e
   where
     go : (b : Bool) → both b (leb m 49152) ≡ true → m ≤ 49152
     go true q = leb-true m 49152 q
     go false q = let z : _≡_ {A = ℕ} 0 1 = cc in absurd (omega arith)
-opened-fits k n (Grant m) e h = h
-opened-fits k n (Release m) e h = h
-opened-fits k n Settle e h = h
-opened-fits k n Other e h = h
+opened-within k n (Grant m) e h = h
+opened-within k n (Release m) e h = h
+opened-within k n Settle e h = h
+opened-within k n Other e h = h
 
 -- ---- a byte, and the end of the script
 pub byte-ended : (b : ℕ) (a r t : List ℕ) (k n : ℕ) (e : Bool) → e ≡ true → step (run a r t k n e) [] ≡ byteStep b (run a r t k n e)

@@ -25,12 +25,12 @@ pub data Step : Type 0 where
   step : Run → List ℕ → Step
 
 -- ---- the call of a line
-abbrev pub callOf : List ℕ → List ℕ → Line → After
-callOf a r (Open n) = openCall a r
-callOf a r (Grant n) = grantCall a r n
-callOf a r (Release m) = releaseCall a r m
-callOf a r Settle = settleCall a r
-callOf a r Other = after a r Done
+abbrev pub lineCall : List ℕ → List ℕ → Line → After
+lineCall a r (Open n) = openCall a r
+lineCall a r (Grant n) = grantCall a r n
+lineCall a r (Release m) = releaseCall a r m
+lineCall a r Settle = settleCall a r
+lineCall a r Other = after a r Done
 
 -- an open sets the arena's length
 abbrev pub lengthOf : Line → ℕ → ℕ
@@ -45,7 +45,7 @@ abbrev pub backIn : List ℕ → ℕ → After → After
 backIn a n (after b r x) = after (b ++ drop n a) r x
 
 unfoldable pub called : List ℕ → List ℕ → ℕ → Line → After
-called a r n l = backIn a n (callOf (take n a) r l)
+called a r n l = backIn a n (lineCall (take n a) r l)
 
 -- ---- a line
 -- the record's word 1; 0 where the line ended the run
@@ -89,7 +89,7 @@ abbrev pub runOf : List ℕ → List ℕ → Log → Run
 runOf a r s = run a r (kept (s .text)) (s .lines) (s .opened) (s .ended)
 
 -- ---- what the steps ask of the lent bytes: room for the longest arena, a record, room for the longest line of output
-pub record Lent (a r o : List ℕ) : Type 0 where
+pub record Buffers (a r o : List ℕ) : Type 0 where
   pub arenaRoom : length a ≡ 49152
   pub recordRoom : length r ≡ 1572
   pub lineRoom : length o ≡ 86

@@ -3,7 +3,7 @@ ghost use mathlib.Core.Path.{_≡_};
 ghost use Prim.Native.Nat.{_+_, _≤_};
 ghost use lib.ListN.{length, take};
 ghost use Rattle.machine.specs.Calls.{after};
-ghost use Rattle.script_run.specs.Run.{step, callOf, called, lengthOf, topAfter, counted, ranStep, lineStep, byteStep, endStep, runOf, Lent, Within};
+ghost use Rattle.script_run.specs.Run.{step, lineCall, called, lengthOf, topAfter, counted, ranStep, lineStep, byteStep, endStep, runOf, Buffers, Within};
 use machine::Answer;
 use script::Line;
 use script::LineText;
@@ -20,7 +20,7 @@ pub struct Log {
 
 // The call of a line, on the arena that it opens or that was opened.
 fn call(arena: &mut [u8], control: &mut [u8], line: Line) -> Answer
-    ensures { λ x. ⌜ after (now (arena .exit)) (now (control .exit)) x ≡ callOf (now (arena .entry)) (now (control .entry)) line ⌝ }
+    ensures { λ x. ⌜ after (now (arena .exit)) (now (control .exit)) x ≡ lineCall (now (arena .entry)) (now (control .entry)) line ⌝ }
 {
     match line {
         Line::Open(_) => {
@@ -89,7 +89,7 @@ fn run_placed(
     control: &mut [u8],
     out: &mut [u8],
 ) -> Log
-    requires { ⌜ Lent (now arena) (now control) (now out) ⌝ }
+    requires { ⌜ Buffers (now arena) (now control) (now out) ⌝ }
     requires { ⌜ n ≤ 49152 ⌝ }
     ensures { λ s. ⌜ step (runOf (now (arena .exit)) (now (control .exit)) s) (take (s .printed) (now (out .exit)))
         ≡ ranStep line k n (called (now (arena .entry)) (now (control .entry)) n line) ⌝ }
@@ -112,7 +112,7 @@ fn run_placed(
 
 // Runs the line that was read; one that is not in its place prints `? k` and ends the run.
 fn run_line(log: Log, arena: &mut [u8], control: &mut [u8], out: &mut [u8]) -> Log
-    requires { ⌜ Lent (now arena) (now control) (now out) ⌝ }
+    requires { ⌜ Buffers (now arena) (now control) (now out) ⌝ }
     requires { ⌜ log .opened ≤ 49152 ⌝ }
     ensures { λ s. ⌜ step (runOf (now (arena .exit)) (now (control .exit)) s) (take (s .printed) (now (out .exit)))
         ≡ lineStep (runOf (now (arena .entry)) (now (control .entry)) log) ⌝ }
@@ -139,7 +139,7 @@ fn run_line(log: Log, arena: &mut [u8], control: &mut [u8], out: &mut [u8]) -> L
 
 // One byte of the script. Nothing follows the end of the run.
 pub fn feed(log: Log, b: u8, arena: &mut [u8], control: &mut [u8], out: &mut [u8]) -> Log
-    requires { ⌜ Lent (now arena) (now control) (now out) ⌝ }
+    requires { ⌜ Buffers (now arena) (now control) (now out) ⌝ }
     requires { ⌜ log .opened ≤ 49152 ⌝ }
     ensures { λ s. ⌜ step (runOf (now (arena .exit)) (now (control .exit)) s) (take (s .printed) (now (out .exit)))
         ≡ byteStep b (runOf (now (arena .entry)) (now (control .entry)) log) ⌝ }
@@ -171,7 +171,7 @@ pub fn feed(log: Log, b: u8, arena: &mut [u8], control: &mut [u8], out: &mut [u8
 
 // The end of the script: a last line without its newline.
 pub fn finish(log: Log, arena: &mut [u8], control: &mut [u8], out: &mut [u8]) -> Log
-    requires { ⌜ Lent (now arena) (now control) (now out) ⌝ }
+    requires { ⌜ Buffers (now arena) (now control) (now out) ⌝ }
     requires { ⌜ log .opened ≤ 49152 ⌝ }
     ensures { λ s. ⌜ step (runOf (now (arena .exit)) (now (control .exit)) s) (take (s .printed) (now (out .exit)))
         ≡ endStep (runOf (now (arena .entry)) (now (control .entry)) log) ⌝ }

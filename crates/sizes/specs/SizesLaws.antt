@@ -5,13 +5,13 @@ use native.Mathlib.Omega.{arith}
 use Rattle.sizes.specs.Sizes.{need, usable, cacheOf, fastOf}
 
 -- what holds of the size that a request of n bytes needs
-pub record Fitting (n s : ℕ) : Type 0 where
+pub record NeedBounds (n s : ℕ) : Type 0 where
   pub least : 32 ≤ s
   pub whole : s % 16 ≡ 0
   pub holds : n + 8 ≤ s
   pub most : n ≤ 262144 → s ≤ 262160
 
-pub need-bounds : (n : ℕ) → Fitting n (need n)
+pub need-bounds : (n : ℕ) → NeedBounds n (need n)
 unfolding need
 need-bounds n = record { least = omega arith; whole = omega arith; holds = omega arith; most = λ h. omega arith }
 

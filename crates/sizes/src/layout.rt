@@ -1,6 +1,5 @@
 // Which word of the record is what: length, top, last remainder; 64 cache heads, 64 counts; 10 fast heads; first and last of bins 1 to 126.
 // The names are those of specs/Layout.antt. Assumes nothing.
-use crate::limits;
 ghost use mathlib.Core.Path.{_≡_};
 ghost use Prim.Native.Nat.{_-_, _≤_};
 ghost use Rattle.sizes.specs.Layout.{binFirst, binLast};
@@ -33,10 +32,13 @@ pub fn bin_last(j: usize) -> usize
     140 + 2 * j
 }
 
+// The list before bin 1 in the audit's order.
+const BEFORE_BINS: u32 = 73;
+
 // The bin that is the audit's list number i.
 pub fn bin_of_list(i: u32) -> usize
     requires { ⌜ 74 ≤ i ⌝ }
     ensures { λ r. ⌜ r ≡ i - 73 ⌝ }
 {
-    (i - limits::BINS_FROM) as usize + limits::UNSORTED
+    (i - BEFORE_BINS) as usize
 }

@@ -14,10 +14,10 @@ use Rattle.machine.specs.Heap.{Tile, tile, Heap, bin, withTiles, withRemainder,
 use Rattle.machine.specs.Writes.{Write, apply, Ran, heapOf, does, more, _>>=_, size, note}
 use Rattle.machine.specs.Primitives.{putFirst, unlink, setP, setNote, cutAt, cutTop}
 use Rattle.machine.specs.Grant.{split}
-use Rattle.sound.specs.Relation.{fits, Mem, Shape, Loose, flags, Homes, Good}
-use Rattle.sound.specs.Tiles.{fits-split, end-append, starts-append, none-out, starts-once}
+use Rattle.sound.specs.Relation.{tiled, Mem, Shape, Loose, flags, Homes, Good}
+use Rattle.sound.specs.Tiles.{tiled-split, end-append, starts-append, none-out, starts-once}
 use Rattle.sound.specs.Lists.{unlink-shape, unlink-loose, link-shape, link-mem}
-use Rattle.sound.specs.Edits.{size-at, snoc-end, snoc-tiles, all-mid, Kept, fits-tiles, set-is, set-kept, note-is, note-kept, cut-is, cut-kept, cut-top-kept}
+use Rattle.sound.specs.Edits.{size-at, snoc-end, snoc-tiles, all-mid, Kept, tiled-tiles, set-is, set-kept, note-is, note-kept, cut-is, cut-kept, cut-top-kept}
 use Rattle.sound.specs.Flags.{lastB, lastS, flags-split, flags-join, flags-below, lastB-below, flags-above}
 use Rattle.sound.specs.Homes.{homes-tiles, sizes-mid, homes-unlink, homes-link, homes-same}
 use Rattle.sound.specs.Ends.{Ends, ends-more, ends-by}
@@ -60,7 +60,7 @@ take-out h a t r j e g mc =
         let d : ℕ → ℕ = λ x. binned (heapOf (unlink j c h)) x in
         let same : (y : ℕ) → (y ≡ c → ⊥) → d y ≡ b y = λ y q. omega (arith, binned-unlink h j c y mc, ind-other y c q) in
         let below : (y : ℕ) → y < c → d y ≡ b y = λ y l. same y (omega arith) in
-        let f : fits a × fits (t ∷ u ∷ r) = fits-split a (t ∷ u ∷ r) (subst fits e (fits-tiles h s)) in
+        let f : tiled a × tiled (t ∷ u ∷ r) = tiled-split a (t ∷ u ∷ r) (subst tiled e (tiled-tiles h s)) in
         let bc : 1 ≤ b c = omega (arith, cnt-le-all c (h .bins) j) in
         let dn : d (c + t .size) ≡ b (c + t .size) = same (c + t .size) (omega (arith, f .1 .1)) in
         let lc : Loose (heapOf (unlink j c h)) c = unlink-loose h j c s mc in
@@ -76,7 +76,7 @@ take-out h a t r j e g mc =
             held = lastB-below b d 0 0 0 a (f .0) refl below ∙ (let q : lastB b 0 0 a ≡ 0 = omega (arith, F .1 .1) in q);
             one = one;
             bare = F .1 .2 .1 one;
-            loose = omega (arith, lc, starts-once (h .tiles) 0 c (fits-tiles h s));
+            loose = omega (arith, lc, starts-once (h .tiles) 0 c (tiled-tiles h s));
             clear = omega (arith, F .1 .3 .0);
             free = omega (arith, F .1 .3 .1, dn);
             high = flags-above b d (c + t .size + u .size) (b (c + t .size)) (d (c + t .size)) (u .size) (r ++ tile (topSize h) 1 0 ∷ []) dn
@@ -103,7 +103,7 @@ module _ (h : Heap) (w : List ℕ) (a r : List Tile) (t u : Tile) (n : ℕ) (O :
       let a₁ : List Tile = a ++ t ∷ [] in
       let e₁ : h .tiles ≡ a₁ ++ u ∷ r = O .tiles ∙ sym (snoc-tiles a (u ∷ r) t) in
       let x : ℕ = endFrom 0 a₁ in
-      let f : fits a × fits (t ∷ u ∷ r) = fits-split a (t ∷ u ∷ r) (subst fits (O .tiles) (fits-tiles h s)) in
+      let f : tiled a × tiled (t ∷ u ∷ r) = tiled-split a (t ∷ u ∷ r) (subst tiled (O .tiles) (tiled-tiles h s)) in
       let sz : sizeOf h c ≡ t .size = size-at h a (u ∷ r) t (O .tiles) (f .0) in
       let en : next h c ≡ x = ap (λ (z : ℕ). c + z) sz ∙ sym (snoc-end a t) in
       let U : Tile = tile (u .size) 1 0 in
@@ -140,7 +140,7 @@ module _ (h : Heap) (w : List ℕ) (a r : List Tile) (t u : Tile) (n : ℕ) (O :
       let z : ℕ = t .size - n in
       let A₁ : Tile = tile n 1 0 in
       let B₁ : Tile = tile z 1 0 in
-      let f : fits a × fits (t ∷ u ∷ r) = fits-split a (t ∷ u ∷ r) (subst fits (O .tiles) (fits-tiles h s)) in
+      let f : tiled a × tiled (t ∷ u ∷ r) = tiled-split a (t ∷ u ∷ r) (subst tiled (O .tiles) (tiled-tiles h s)) in
       let sz : sizeOf h c ≡ t .size = size-at h a (u ∷ r) t (O .tiles) (f .0) in
       let ts₁ : List Tile = a ++ A₁ ∷ B₁ ∷ u ∷ r in
       let h₁ : Heap = withTiles ts₁ h in
@@ -195,7 +195,7 @@ module _ (h : Heap) (w : List ℕ) (a r : List Tile) (t u : Tile) (n : ℕ) (O :
             homes = homes-link h₂ 1 (c + n) [] (bin h₂ 1) (omega arith) j1 refl (λ i. absurd (omega (arith, i))) (λ i. absurd (omega (arith, i)))
                 (homes-same h₁ a₂ r u U e₂ (K₁ .shape) refl (f .1 .3 .2)
                 (homes-tiles h ts₁
-                (λ y i. sizes-mid h ts₁ a (t ∷ []) (A₁ ∷ B₁ ∷ []) (u ∷ r) y s (fits-tiles h s)
+                (λ y i. sizes-mid h ts₁ a (t ∷ []) (A₁ ∷ B₁ ∷ []) (u ∷ r) y s (tiled-tiles h s)
                 (n16, n32, omega arith, (omega (arith, f .1 .0), omega arith, omega arith, tt)) (O .tiles) refl (inl (omega arith)) i
                 (omega (arith, ind-other y c (λ q. omega (arith, ap (λ (o : ℕ). total o h) q, O .loose)))))
                 (O .homes)));
@@ -230,7 +230,7 @@ remainder-good h c g =
     let s = g .shape in
     let o = g .homes in
     record {
-      shape = record { small = s .small; fit = s .fit; stacked74 = s .stacked74; binned127 = s .binned127; own = s .own };
+      shape = record { small = s .small; sizes = s .sizes; stacked74 = s .stacked74; binned127 = s .binned127; own = s .own };
       homes = record { stacked = o .stacked; quick = o .quick; short = o .short; none = o .none; sorted = o .sorted; falling = o .falling };
       flag = g .flag;
     }
@@ -251,7 +251,7 @@ top-ends h w n g k n16 n32 l =
     let B₁ : Tile = tile (h .len - (c + n)) 1 0 in
     let K = cut-top-kept h w n s k n16 n32 l in
     let F = flags-split b 0 0 0 a (T ∷ []) (g .flag) in
-    let none : (x : ℕ) → c ≤ x → total x h ≡ 0 = λ x i. omega (arith, s .own x, none-out a 0 x (fits-tiles h s) (inr i)) in
+    let none : (x : ℕ) → c ≤ x → total x h ≡ 0 = λ x i. omega (arith, s .own x, none-out a 0 x (tiled-tiles h s) (inr i)) in
     let q : lastB b 0 0 a ≡ 0 = omega (arith, F .1 .0) in
     record {
       mem = K .mem;
@@ -259,7 +259,7 @@ top-ends h w n g k n16 n32 l =
         record {
           shape = K .shape;
           homes = homes-tiles h (a ++ A₁ ∷ [])
-              (λ y i. sizes-mid h (a ++ A₁ ∷ []) a [] (A₁ ∷ []) [] y s (fits-tiles h s) (n16, n32, omega arith, tt) (sym (append-nil a)) refl (inr refl) i refl)
+              (λ y i. sizes-mid h (a ++ A₁ ∷ []) a [] (A₁ ∷ []) [] y s (tiled-tiles h s) (n16, n32, omega arith, tt) (sym (append-nil a)) refl (inr refl) i refl)
               (g .homes);
           flag = subst (flags b 0 0 0) (sym (ap (λ (o : ℕ). (a ++ A₁ ∷ []) ++ tile (h .len - o) 1 0 ∷ []) (snoc-end a A₁) ∙ snoc-tiles a (B₁ ∷ []) A₁))
               (flags-join b 0 0 0 a (A₁ ∷ B₁ ∷ []) (F .0) (
@@ -274,6 +274,6 @@ top-ends h w n g k n16 n32 l =
                 ),
               ));
         },
-        size-at (withTiles (a ++ A₁ ∷ []) h) a [] A₁ refl (fits-tiles h s),
+        size-at (withTiles (a ++ A₁ ∷ []) h) a [] A₁ refl (tiled-tiles h s),
       );
     }

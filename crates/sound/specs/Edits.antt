@@ -12,15 +12,15 @@ use Rattle.machine.specs.Count.{eq?, ind-other, cnt-here, cnt-there}
 use Rattle.machine.specs.Heap.{Tile, tile, Heap, withTiles, endFrom, startsFrom, upTo, since, hdSize, topOf, topSize, starts, sizeOf, total}
 use Rattle.machine.specs.Writes.{Write, who, put, apply, does, size, note}
 use Rattle.machine.specs.Primitives.{swallow, clearP, setP, setNote, cutAt, toTop}
-use Rattle.sound.specs.Relation.{all, fits, tilesAt, Mem, Shape}
-use Rattle.sound.specs.Tiles.{zero-or, fits-split, fits-join, end-even, end-append, starts-append, Start, start, up-to, since-at, Place, place, tiles-split}
+use Rattle.sound.specs.Relation.{all, tiled, tilesAt, Mem, Shape}
+use Rattle.sound.specs.Tiles.{zero-or, tiled-split, tiled-join, end-even, end-append, starts-append, Start, start, up-to, since-at, Place, place, tiles-split}
 use Rattle.sound.specs.Frames.{Starts, Grid, grid, field-lt, put-length, put-other, put-same, HeadW, retile, Within, words-mid}
 
 -- ---- what stands at the end of a
-pub tiles-at : (h : Heap) (a r : List Tile) → h .tiles ≡ a ++ r → fits a → (upTo 0 (endFrom 0 a) (h .tiles) ≡ a) × (since 0 (endFrom 0 a) (h .tiles) ≡ r)
+pub tiles-at : (h : Heap) (a r : List Tile) → h .tiles ≡ a ++ r → tiled a → (upTo 0 (endFrom 0 a) (h .tiles) ≡ a) × (since 0 (endFrom 0 a) (h .tiles) ≡ r)
 tiles-at h a r e f = (rw e (up-to 0 a r f), rw e (since-at 0 a r f))
 
-pub size-at : (h : Heap) (a z : List Tile) (t : Tile) → h .tiles ≡ a ++ t ∷ z → fits a → sizeOf h (endFrom 0 a) ≡ t .size
+pub size-at : (h : Heap) (a z : List Tile) (t : Tile) → h .tiles ≡ a ++ t ∷ z → tiled a → sizeOf h (endFrom 0 a) ≡ t .size
 size-at h a z t e f = ap hdSize (tiles-at h a (t ∷ z) e f .1)
 
 pub snoc-end : (a : List Tile) (t : Tile) → endFrom 0 (a ++ t ∷ []) ≡ endFrom 0 a + t .size
@@ -29,7 +29,7 @@ snoc-end a t = end-append 0 a (t ∷ [])
 pub snoc-tiles : (a z : List Tile) (t : Tile) → (a ++ t ∷ []) ++ z ≡ a ++ t ∷ z
 snoc-tiles a z t = append-assoc a (t ∷ []) z
 
-pub size-next : (h : Heap) (a z : List Tile) (t u : Tile) → h .tiles ≡ a ++ t ∷ u ∷ z → fits (a ++ t ∷ []) → sizeOf h (endFrom 0 a + t .size) ≡ u .size
+pub size-next : (h : Heap) (a z : List Tile) (t u : Tile) → h .tiles ≡ a ++ t ∷ u ∷ z → tiled (a ++ t ∷ []) → sizeOf h (endFrom 0 a + t .size) ≡ u .size
 size-next h a z t u e f = rw (snoc-end a t) at (size-at h (a ++ t ∷ []) z u (e ∙ sym (snoc-tiles a (u ∷ z) t)) f)
 
 -- ---- a middle is put in another's place
@@ -59,7 +59,7 @@ same-starts h a z u v e q x = omega (
   ap (λ (o : ℕ). cnt x (startsFrom (endFrom 0 a + o) z)) q,
 )
 
-head-within : (o : ℕ) (n : List Tile) (ws : List Write) → o % 16 ≡ 0 → fits n → HeadW (startsFrom o n) ws → Within (o / 8) (endFrom o n / 8) ws
+head-within : (o : ℕ) (n : List Tile) (ws : List Write) → o % 16 ≡ 0 → tiled n → HeadW (startsFrom o n) ws → Within (o / 8) (endFrom o n / 8) ws
 head-within o n [] e f k = tt
 head-within o n (x ∷ ws) e f k =
     let s : Start n o (who x) = start n o (who x) f (k .1) in
@@ -74,9 +74,9 @@ pub mid-mem : (h : Heap) (w : List ℕ) (ts a m n z : List Tile) (ws : List Writ
     → HeadW (startsFrom (endFrom 0 a) n) ws → tilesAt (apply ws w) (endFrom 0 a) n → Mem (withTiles ts h) (apply ws w)
 mid-mem h w ts a m n z ws s k s′ e e′ q hw kn =
     let c : ℕ = endFrom 0 a in
-    let f : fits (a ++ (m ++ z)) = subst fits e (s .fit) in
-    let fa : fits a × fits (m ++ z) = fits-split a (m ++ z) f in
-    let fn : fits n × fits z = fits-split n z (fits-split a (n ++ z) (subst fits e′ (s′ .fit)) .1) in
+    let f : tiled (a ++ (m ++ z)) = subst tiled e (s .sizes) in
+    let fa : tiled a × tiled (m ++ z) = tiled-split a (m ++ z) f in
+    let fn : tiled n × tiled z = tiled-split n z (tiled-split a (n ++ z) (subst tiled e′ (s′ .sizes)) .1) in
     let ce : c % 16 ≡ 0 = end-even 0 a refl (fa .0) in
     let st : (x : ℕ) → cnt x (Starts (withTiles ts h)) ≡ cnt x (startsFrom 0 a) + (cnt x (startsFrom c n) + cnt x (startsFrom (endFrom c n) z))
     = λ x. ap (λ (l : List Tile). cnt x (startsFrom 0 l)) e′ ∙ starts-append 0 a (n ++ z) x
@@ -86,14 +86,14 @@ mid-mem h w ts a m n z ws s k s′ e e′ q hw kn =
     (subst (tilesAt (apply ws w) 0) (sym e′)
     (words-mid w ws a m n z f (fn .0) q (rw q (head-within c n ws ce (fn .0) hw)) kn (subst (tilesAt w 0) e (k .words))))
 
-pub mid-shape : (h : Heap) (ts a m n z : List Tile) → Shape h → all h ≡ a ++ (m ++ z) → all (withTiles ts h) ≡ a ++ (n ++ z) → fits n
+pub mid-shape : (h : Heap) (ts a m n z : List Tile) → Shape h → all h ≡ a ++ (m ++ z) → all (withTiles ts h) ≡ a ++ (n ++ z) → tiled n
     → ((x : ℕ) → 1 ≤ total x h → cnt x (starts h) ≤ cnt x (startsFrom 0 ts)) → Shape (withTiles ts h)
 mid-shape h ts a m n z s e e′ fn keep =
-    let fa : fits a × fits (m ++ z) = fits-split a (m ++ z) (subst fits e (s .fit)) in
-    let fm : fits m × fits z = fits-split m z (fa .1) in
+    let fa : tiled a × tiled (m ++ z) = tiled-split a (m ++ z) (subst tiled e (s .sizes)) in
+    let fm : tiled m × tiled z = tiled-split m z (fa .1) in
     record {
       small = s .small;
-      fit = subst fits (sym e′) (fits-join a (n ++ z) (fa .0) (fits-join n z fn (fm .1)));
+      sizes = subst tiled (sym e′) (tiled-join a (n ++ z) (fa .0) (tiled-join n z fn (fm .1)));
       stacked74 =
           s .stacked74;
       binned127 = s .binned127;
@@ -107,7 +107,7 @@ pub record Kept (h : Heap) (ts : List Tile) (w : List ℕ) (ws : List Write) : T
 
 -- the whole of it: what is left to show is the middle's own words
 pub mid : (h : Heap) (w : List ℕ) (ts a m n z : List Tile) (ws : List Write) → Shape h → Mem h w
-    → (all h ≡ a ++ (m ++ z)) × (all (withTiles ts h) ≡ a ++ (n ++ z)) → fits n → endFrom (endFrom 0 a) m ≡ endFrom (endFrom 0 a) n
+    → (all h ≡ a ++ (m ++ z)) × (all (withTiles ts h) ≡ a ++ (n ++ z)) → tiled n → endFrom (endFrom 0 a) m ≡ endFrom (endFrom 0 a) n
     → ((x : ℕ) → 1 ≤ total x h → cnt x (starts h) ≤ cnt x (startsFrom 0 ts))
     → HeadW (startsFrom (endFrom 0 a) n) ws
     → ((S : List ℕ) → Grid S (length w) → ((x : ℕ) → 1 ≤ cnt x (startsFrom (endFrom 0 a) n) → 1 ≤ cnt x S) → tilesAt w (endFrom 0 a) m
@@ -121,27 +121,27 @@ mid h w ts a m n z ws s k E fn q keep hw own =
     record {
       shape = sh;
       mem = mid-mem h w ts a m n z ws s k sh (E .0) (E .1) q hw
-          (own (Starts h′) (grid h′ (length w) (sh .fit) (k .long))
+          (own (Starts h′) (grid h′ (length w) (sh .sizes) (k .long))
           (λ x i. omega (arith, ap (λ (l : List Tile). cnt x (startsFrom 0 l)) (E .1), starts-append 0 a (n ++ z) x, starts-append c n z x))
           (tiles-split w c m z (ka .1) .0));
     }
 
-pub fits-tiles : (h : Heap) → Shape h → fits (h .tiles)
-fits-tiles h s = fits-split (h .tiles) (tile (topSize h) 1 0 ∷ []) (s .fit) .0
+pub tiled-tiles : (h : Heap) → Shape h → tiled (h .tiles)
+tiled-tiles h s = tiled-split (h .tiles) (tile (topSize h) 1 0 ∷ []) (s .sizes) .0
 
 zeroth : (v : List ℕ) (c : ℕ) → getD v (prevWord c) 0 ≡ getD v (c / 8 + 0) 0
 zeroth v c = ap (λ (i : ℕ). getD v i 0) (let e : c / 8 ≡ c / 8 + 0 = omega arith in e)
 
 -- ---- c takes in the next chunk, which no list has
 module _ (h : Heap) (w : List ℕ) (a z : List Tile) (t u : Tile) (e : h .tiles ≡ a ++ t ∷ u ∷ z) (s : Shape h) where
-  fa : fits a × fits (t ∷ u ∷ z)
-  fa = fits-split a (t ∷ u ∷ z) (subst fits e (fits-tiles h s))
+  fa : tiled a × tiled (t ∷ u ∷ z)
+  fa = tiled-split a (t ∷ u ∷ z) (subst tiled e (tiled-tiles h s))
 
   pub swallow-is : swallow (endFrom 0 a) h ≡ does (withTiles (a ++ tile (t .size + u .size) 1 0 ∷ z) h) (size (endFrom 0 a) (t .size + u .size) 1 ∷ [])
   swallow-is =
       let f = fa in
       let p = tiles-at h a (t ∷ u ∷ z) e (f .0) in
-      rw (p .0, p .1) (rw (size-next h a z t u e (fits-join a (t ∷ []) (f .0) (f .1 .0, f .1 .1, f .1 .2, tt))))
+      rw (p .0, p .1) (rw (size-next h a z t u e (tiled-join a (t ∷ []) (f .0) (f .1 .0, f .1 .1, f .1 .2, tt))))
 
   pub swallow-kept : Mem h w → total (endFrom 0 a + t .size) h ≡ 0 → Kept h (a ++ tile (t .size + u .size) 1 0 ∷ z) w (size (endFrom 0 a) (t .size + u .size) 1 ∷ [])
   swallow-kept k lo =
@@ -169,8 +169,8 @@ module _ (h : Heap) (w : List ℕ) (a z : List Tile) (t u : Tile) (e : h .tiles 
 
 -- ---- P and the note of a chunk; a chunk is cut
 module _ (h : Heap) (w : List ℕ) (a z : List Tile) (u : Tile) (e : h .tiles ≡ a ++ u ∷ z) (s : Shape h) where
-  fu : fits a × fits (u ∷ z)
-  fu = fits-split a (u ∷ z) (subst fits e (fits-tiles h s))
+  fu : tiled a × tiled (u ∷ z)
+  fu = tiled-split a (u ∷ z) (subst tiled e (tiled-tiles h s))
 
   pub clear-is : (n : ℕ) → clearP (endFrom 0 a) n h ≡ does (withTiles (a ++ tile (u .size) 0 n ∷ z) h) (size (endFrom 0 a) (u .size) 0 ∷ note (endFrom 0 a) n ∷ [])
   clear-is n = let p = tiles-at h a (u ∷ z) e (fu .0) in rw (p .0, p .1)
@@ -260,17 +260,17 @@ module _ (h : Heap) (w : List ℕ) (a z : List Tile) (u : Tile) (e : h .tiles �
 -- ---- the last chunk becomes part of the top; a chunk is cut off the top
 pub to-top-is : (h : Heap) (a : List Tile) (t : Tile) → h .tiles ≡ a ++ t ∷ [] → Shape h
     → toTop (endFrom 0 a) h ≡ does (withTiles a h) (size (endFrom 0 a) (h .len - endFrom 0 a) 1 ∷ [])
-to-top-is h a t e s = let p = tiles-at h a (t ∷ []) e (fits-split a (t ∷ []) (subst fits e (fits-tiles h s)) .0) in rw (p .0)
+to-top-is h a t e s = let p = tiles-at h a (t ∷ []) e (tiled-split a (t ∷ []) (subst tiled e (tiled-tiles h s)) .0) in rw (p .0)
 
 pub to-top-kept : (h : Heap) (w : List ℕ) (a : List Tile) (t : Tile) → h .tiles ≡ a ++ t ∷ [] → Shape h → Mem h w → total (endFrom 0 a) h ≡ 0
     → Kept h a w (size (endFrom 0 a) (h .len - endFrom 0 a) 1 ∷ [])
 to-top-kept h w a t e s k lo =
     let c : ℕ = endFrom 0 a in
-    let f : fits a × fits (t ∷ []) = fits-split a (t ∷ []) (subst fits e (fits-tiles h s)) in
+    let f : tiled a × tiled (t ∷ []) = tiled-split a (t ∷ []) (subst tiled e (tiled-tiles h s)) in
     let n : ℕ = topSize h in
     let U : Tile = tile (h .len - c) 1 0 in
     let et : topOf h ≡ c + t .size = ap (endFrom 0) e ∙ snoc-end a t in
-    let ft : fits (h .tiles) × fits (tile n 1 0 ∷ []) = fits-split (h .tiles) (tile n 1 0 ∷ []) (s .fit) in
+    let ft : tiled (h .tiles) × tiled (tile n 1 0 ∷ []) = tiled-split (h .tiles) (tile n 1 0 ∷ []) (s .sizes) in
     let q : c + t .size + n ≡ c + (h .len - c) = omega (arith, ft .1 .1) in
     mid h w a a (t ∷ tile n 1 0 ∷ []) (U ∷ []) [] (size c (h .len - c) 1 ∷ []) s k
     (ap (λ (l : List Tile). l ++ tile n 1 0 ∷ []) e ∙ snoc-tiles a (tile n 1 0 ∷ []) t, refl)
@@ -289,7 +289,7 @@ cut-top-kept h w b s k b16 b32 bu =
     let c : ℕ = endFrom 0 a in
     let n : ℕ = h .len - c in
     let m : ℕ = h .len - (c + b) in
-    let ft : fits a × fits (tile n 1 0 ∷ []) = fits-split a (tile n 1 0 ∷ []) (s .fit) in
+    let ft : tiled a × tiled (tile n 1 0 ∷ []) = tiled-split a (tile n 1 0 ∷ []) (s .sizes) in
     let e1 : Write = size c b 1 in
     let e2 : Write = size (c + b) m 1 in
     let w1 : List ℕ = put e1 w in
@@ -309,7 +309,7 @@ cut-top-kept h w b s k b16 b32 bu =
 -- ---- a chunk's size
 pub size-place : (h : Heap) (x : ℕ) → Shape h → (P : Place (h .tiles) 0 x) → (sizeOf h x ≡ P .t .size) × (P .t .size % 16 ≡ 0) × (32 ≤ P .t .size) × (x % 16 ≡ 0)
 size-place h x s P =
-    let f : fits (P .a) × fits (P .t ∷ P .z) = fits-split (P .a) (P .t ∷ P .z) (subst fits (P .tiles) (fits-tiles h s)) in
+    let f : tiled (P .a) × tiled (P .t ∷ P .z) = tiled-split (P .a) (P .t ∷ P .z) (subst tiled (P .tiles) (tiled-tiles h s)) in
     (ap (sizeOf h) (P .at) ∙ size-at h (P .a) (P .z) (P .t) (P .tiles) (f .0), f .1 .0, f .1 .1, omega (arith, P .at, end-even 0 (P .a) refl (f .0)))
 
 pub size-32 : (h : Heap) (x : ℕ) → Shape h → 1 ≤ cnt x (starts h) → 32 ≤ sizeOf h x

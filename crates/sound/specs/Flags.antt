@@ -4,7 +4,7 @@ use mathlib.Core.List.{List, [], _∷_, _++_}
 use Prim.Native.Nat.{ℕ, _+_, _≤_, _<_}
 use native.Mathlib.Omega.{arith}
 use Rattle.machine.specs.Heap.{Tile, endFrom}
-use Rattle.sound.specs.Relation.{fits, flags}
+use Rattle.sound.specs.Relation.{tiled, flags}
 use Rattle.sound.specs.Tiles.{end-le}
 
 -- the first tile's own P and note are left open
@@ -32,13 +32,13 @@ flags-join b o q s [] z j k = k
 flags-join b o q s (t ∷ a) z j k = (j .0, j .1, j .2, flags-join b (o + t .size) (b o) (t .size) a z (j .3) k)
 
 -- the bins agree below the tiles' end; from the tiles' start on
-pub flags-below : (b d : ℕ → ℕ) (o q q′ s : ℕ) (a : List Tile) → fits a → q′ ≡ q → ((x : ℕ) → x < endFrom o a → d x ≡ b x) → flags b o q s a → flags d o q′ s a
+pub flags-below : (b d : ℕ → ℕ) (o q q′ s : ℕ) (a : List Tile) → tiled a → q′ ≡ q → ((x : ℕ) → x < endFrom o a → d x ≡ b x) → flags b o q s a → flags d o q′ s a
 flags-below b d o q q′ s [] f e g k = tt
 flags-below b d o q q′ s (t ∷ a) f e g k =
     let h : d o ≡ b o = g o (omega (arith, end-le (o + t .size) a)) in
     (omega arith, omega arith, k .2, flags-below b d (o + t .size) (b o) (d o) (t .size) a (f .3) h g (k .3))
 
-pub lastB-below : (b d : ℕ → ℕ) (o q q′ : ℕ) (a : List Tile) → fits a → q′ ≡ q → ((x : ℕ) → x < endFrom o a → d x ≡ b x) → lastB d o q′ a ≡ lastB b o q a
+pub lastB-below : (b d : ℕ → ℕ) (o q q′ : ℕ) (a : List Tile) → tiled a → q′ ≡ q → ((x : ℕ) → x < endFrom o a → d x ≡ b x) → lastB d o q′ a ≡ lastB b o q a
 lastB-below b d o q q′ [] f e g = e
 lastB-below b d o q q′ (t ∷ a) f e g = lastB-below b d (o + t .size) (b o) (d o) a (f .3) (g o (omega (arith, end-le (o + t .size) a))) g
 

@@ -14,8 +14,8 @@ use Rattle.machine.specs.Lists.{ind, cnt, cntAll}
 use Rattle.machine.specs.Count.{eq?, cnt-here, cnt-there, cnt-le-all}
 use Rattle.machine.specs.Heap.{Tile, tile, Heap, stack, bin, withTiles, withBin, endFrom, startsFrom, topOf, topSize, starts, total}
 use Rattle.machine.specs.Writes.{Write, who, field, value, put, apply, size, note, link, fwd, back}
-use Rattle.sound.specs.Relation.{all, fits, tilesAt, chain, links, Mem, Shape}
-use Rattle.sound.specs.Tiles.{fits-split, end-even, end-append, starts-append, Start, start, starts-once, gap, tiles-split, tiles-join, tiles-cong}
+use Rattle.sound.specs.Relation.{all, tiled, tilesAt, chain, links, Mem, Shape}
+use Rattle.sound.specs.Tiles.{tiled-split, end-even, end-append, starts-append, Start, start, starts-once, gap, tiles-split, tiles-join, tiles-cong}
 
 -- two memories that agree at the i-th word of each chunk of l
 abbrev pub Agree : List ℕ → List ℕ → ℕ → List ℕ → Type 0
@@ -42,10 +42,10 @@ set-cases P ls k l j h same other =
     (λ e. rw (getD-set-other ls k j l [] e) (other e))
     (eq? j k)
 
-pub end-all : (h : Heap) → fits (all h) → endFrom 0 (all h) ≡ h .len
+pub end-all : (h : Heap) → tiled (all h) → endFrom 0 (all h) ≡ h .len
 end-all h f =
     let T : Tile = tile (topSize h) 1 0 in
-    let r : fits (h .tiles) × fits (T ∷ []) = fits-split (h .tiles) (T ∷ []) f in
+    let r : tiled (h .tiles) × tiled (T ∷ []) = tiled-split (h .tiles) (T ∷ []) f in
     omega (arith, end-append 0 (h .tiles) (T ∷ []), r .1 .1)
 
 -- every chunk and the top
@@ -62,7 +62,7 @@ pub record Grid (S : List ℕ) (n : ℕ) : Type 0 where
   pub once : (x : ℕ) → cnt x S ≤ 1
   pub spaced : (x y : ℕ) → 1 ≤ cnt x S → 1 ≤ cnt y S → (x ≡ y → ⊥) → (x + 32 ≤ y) ⊎ (y + 32 ≤ x)
 
-pub grid : (h : Heap) (n : ℕ) → fits (all h) → 8 * n ≡ h .len → Grid (Starts h) n
+pub grid : (h : Heap) (n : ℕ) → tiled (all h) → 8 * n ≡ h .len → Grid (Starts h) n
 grid h n f e = record {
   even = λ x m. let s : Start (all h) 0 x = start (all h) 0 x f m in omega arith;
   inside = λ x m. let s : Start (all h) 0 x = start (all h) 0 x f m in omega (arith, end-all h f);
@@ -166,7 +166,7 @@ pub rebin : (h : Heap) (w : List ℕ) (j : ℕ) (l L : List ℕ) (ws : List Writ
 rebin h w j l L ws s m hj sub lw ds db own =
     let S : List ℕ = Starts h in
     let v : List ℕ = apply ws w in
-    let g : Grid S (length w) = grid h (length w) (s .fit) (m .long) in
+    let g : Grid S (length w) = grid h (length w) (s .sizes) (m .long) in
     let ag : (i : ℕ) (l : List ℕ) → i < 4 → Sub l S → ((x : ℕ) → 1 ≤ cnt x L → cnt x l ≡ 0) → Agree w v i l
     = λ i l hi sl d. agree S (length w) g ws w i l hi sl (link-out S L l i ws sub d lw) in
     record {
@@ -194,7 +194,7 @@ retile h w ts ws m s hw k =
     let h′ : Heap = withTiles ts h in
     let S : List ℕ = Starts h′ in
     let v : List ℕ = apply ws w in
-    let g : Grid S (length w) = grid h′ (length w) (s .fit) (m .long) in
+    let g : Grid S (length w) = grid h′ (length w) (s .sizes) (m .long) in
     let ag : (i : ℕ) (l : List ℕ) → 2 ≤ i → i < 4 → Sub l S → Agree w v i l = λ i l h2 h4 sl. agree S (length w) g ws w i l h4 sl (head-off S l i ws h2 hw) in
     record {
       long = rw apply-length (m .long);
@@ -218,14 +218,14 @@ outside lo hi (e ∷ ws) w i k d =
     ∙ getD-set-other w (who e / 8 + field e) i (value e) 0 (λ q. ⊎-elim (λ l. omega (arith, k .0)) (λ l. omega (arith, k .1)) d)
 
 -- another middle of the same length, whose words are written
-pub words-mid : (w : List ℕ) (ws : List Write) (a m n z : List Tile) → fits (a ++ (m ++ z)) → fits n → endFrom (endFrom 0 a) m ≡ endFrom (endFrom 0 a) n
+pub words-mid : (w : List ℕ) (ws : List Write) (a m n z : List Tile) → tiled (a ++ (m ++ z)) → tiled n → endFrom (endFrom 0 a) m ≡ endFrom (endFrom 0 a) n
     → Within (endFrom 0 a / 8) (endFrom (endFrom 0 a) m / 8) ws → tilesAt (apply ws w) (endFrom 0 a) n
     → tilesAt w 0 (a ++ (m ++ z)) → tilesAt (apply ws w) 0 (a ++ (n ++ z))
 words-mid w ws a m n z f fn e win kn k =
     let c : ℕ = endFrom 0 a in
     let v : List ℕ = apply ws w in
-    let fa : fits a × fits (m ++ z) = fits-split a (m ++ z) f in
-    let fm : fits m × fits z = fits-split m z (fa .1) in
+    let fa : tiled a × tiled (m ++ z) = tiled-split a (m ++ z) f in
+    let fm : tiled m × tiled z = tiled-split m z (fa .1) in
     let ka : tilesAt w 0 a × tilesAt w c (m ++ z) = tiles-split w 0 a (m ++ z) k in
     let km : tilesAt w c m × tilesAt w (endFrom c m) z = tiles-split w c m z (ka .1) in
     let ce : c % 16 ≡ 0 = end-even 0 a refl (fa .0) in

@@ -13,11 +13,11 @@ use Rattle.machine.specs.Count.{eq?, ind-other, cnt-append, cnt-here, cnt-there
 use Rattle.machine.specs.Heap.{Tile, Heap, bin, withTiles, endFrom, startsFrom, since, hdSize, starts, sizeOf, total}
 use Rattle.machine.specs.Writes.{heapOf}
 use Rattle.machine.specs.Primitives.{linkIn, unlink}
-use Rattle.sound.specs.Relation.{fits, Shape, falls, Homes}
-use Rattle.sound.specs.Tiles.{zero-or, fits-split, starts-append, Start, start, size-mid}
+use Rattle.sound.specs.Relation.{tiled, Shape, falls, Homes}
+use Rattle.sound.specs.Tiles.{zero-or, tiled-split, starts-append, Start, start, size-mid}
 use Rattle.sound.specs.Frames.{set-cases}
 use Rattle.sound.specs.Lists.{cut, cut-cnt, in-range}
-use Rattle.sound.specs.Edits.{size-at, fits-tiles}
+use Rattle.sound.specs.Edits.{size-at, tiled-tiles}
 
 pub falls-cong : (f g : ℕ → ℕ) (l : List ℕ) → ((x : ℕ) → 1 ≤ cnt x l → g x ≡ f x) → falls f l → falls g l
 falls-cong f g [] e k = tt
@@ -53,13 +53,13 @@ homes-tiles h ts e m = record {
 }
 
 -- a middle is put in another's place: chunks of which no start is in it keep their sizes
-pub sizes-at : (h : Heap) (ts a m n z : List Tile) (x : ℕ) → fits (h .tiles) → fits n → h .tiles ≡ a ++ (m ++ z) → ts ≡ a ++ (n ++ z)
+pub sizes-at : (h : Heap) (ts a m n z : List Tile) (x : ℕ) → tiled (h .tiles) → tiled n → h .tiles ≡ a ++ (m ++ z) → ts ≡ a ++ (n ++ z)
     → (endFrom (endFrom 0 a) m ≡ endFrom (endFrom 0 a) n) ⊎ (z ≡ []) → 1 ≤ cnt x (starts h) → cnt x (startsFrom (endFrom 0 a) m) ≡ 0
     → sizeOf (withTiles ts h) x ≡ sizeOf h x
 sizes-at h ts a m n z x ft fn e e′ q i out =
     let c : ℕ = endFrom 0 a in
-    let fa : fits a × fits (m ++ z) = fits-split a (m ++ z) (subst fits e ft) in
-    let fm : fits m × fits z = fits-split m z (fa .1) in
+    let fa : tiled a × tiled (m ++ z) = tiled-split a (m ++ z) (subst tiled e ft) in
+    let fm : tiled m × tiled z = tiled-split m z (fa .1) in
     let in3 : 1 ≤ cnt x (startsFrom 0 a) + cnt x (startsFrom (endFrom c m) z) =
     omega (arith, ap (λ (l : List Tile). cnt x (startsFrom 0 l)) e, starts-append 0 a (m ++ z) x, starts-append c m z x) in
     let low : 1 ≤ cnt x (startsFrom 0 a) → x < c = λ k. let g : Start a 0 x = start a 0 x (fa .0) k in omega (arith, g .high) in
@@ -71,7 +71,7 @@ sizes-at h ts a m n z x ft fn e e′ q i out =
     (zero-or (cnt x (startsFrom 0 a))) in
     ap (λ (l : List Tile). hdSize (since 0 x l)) e′ ∙ sym (size-mid 0 x a m n z (fm .0) fn d) ∙ ap (λ (l : List Tile). hdSize (since 0 x l)) (sym e)
 
-pub sizes-mid : (h : Heap) (ts a m n z : List Tile) (x : ℕ) → Shape h → fits (h .tiles) → fits n → h .tiles ≡ a ++ (m ++ z) → ts ≡ a ++ (n ++ z)
+pub sizes-mid : (h : Heap) (ts a m n z : List Tile) (x : ℕ) → Shape h → tiled (h .tiles) → tiled n → h .tiles ≡ a ++ (m ++ z) → ts ≡ a ++ (n ++ z)
     → (endFrom (endFrom 0 a) m ≡ endFrom (endFrom 0 a) n) ⊎ (z ≡ []) → 1 ≤ total x h → cnt x (startsFrom (endFrom 0 a) m) ≡ 0
     → sizeOf (withTiles ts h) x ≡ sizeOf h x
 sizes-mid h ts a m n z x s ft fn e e′ q i out = sizes-at h ts a m n z x ft fn e e′ q (omega (arith, s .own x)) out
@@ -120,11 +120,11 @@ homes-link h j c xs ys j1 hj e bc fc m = record {
 pub homes-same : (h : Heap) (a r : List Tile) (u v : Tile) → h .tiles ≡ a ++ u ∷ r → Shape h → v .size ≡ u .size → v .p ≤ 1 → Homes h
     → Homes (withTiles (a ++ v ∷ r) h)
 homes-same h a r u v e s q p m =
-    let f : fits a × fits (u ∷ r) = fits-split a (u ∷ r) (subst fits e (fits-tiles h s)) in
+    let f : tiled a × tiled (u ∷ r) = tiled-split a (u ∷ r) (subst tiled e (tiled-tiles h s)) in
     homes-tiles h (a ++ v ∷ r)
     (λ y i. ⊎-elim
     (λ z. rw z (size-at (withTiles (a ++ v ∷ r) h) a r v refl (f .0) ∙ q ∙ sym (size-at h a r u e (f .0))))
-    (λ z. sizes-mid h (a ++ v ∷ r) a (u ∷ []) (v ∷ []) r y s (fits-tiles h s) (omega (arith, f .1 .0), omega (arith, f .1 .1), p, tt) e refl
+    (λ z. sizes-mid h (a ++ v ∷ r) a (u ∷ []) (v ∷ []) r y s (tiled-tiles h s) (omega (arith, f .1 .0), omega (arith, f .1 .1), p, tt) e refl
     (inl (omega arith)) i (omega (arith, ind-other y (endFrom 0 a) z)))
     (eq? y (endFrom 0 a)))
     m

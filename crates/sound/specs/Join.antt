@@ -1,4 +1,4 @@
--- A loose chunk is joined with its neighbours: the whole step keeps a sound heap, and its words. By a named state in between (Gap). Assumes nothing.
+-- A loose chunk is joined with its neighbours: the whole step keeps a sound heap, and its words. By a named state in between (Joining). Assumes nothing.
 use mathlib.Core.Path.{_≡_, refl, sym, ap, _∙_, subst}
 use mathlib.Core.List.{List, [], _∷_, _++_, append-assoc, append-nil}
 use mathlib.Core.Logic.{inl, inr, ⊎-elim}
@@ -16,10 +16,10 @@ use Rattle.machine.specs.Heap.{Tile, tile, Heap, bin, withTiles, endFrom, start
 use Rattle.machine.specs.Writes.{Write, apply, Ran, heapOf, writes, does, giving, more, _>>=_, size, note}
 use Rattle.machine.specs.Primitives.{linkIn, putFirst, unlink, swallow, clearP, toTop}
 use Rattle.machine.specs.Release.{absorb, joinNext, putDown, join}
-use Rattle.sound.specs.Relation.{fits, Mem, Shape, Loose, flags, Homes, Good}
-use Rattle.sound.specs.Tiles.{zero-or, fits-split, end-le, end-append, starts-append, none-out, starts-once, Place, place}
+use Rattle.sound.specs.Relation.{tiled, Mem, Shape, Loose, flags, Homes, Good}
+use Rattle.sound.specs.Tiles.{zero-or, tiled-split, end-le, end-append, starts-append, none-out, starts-once, Place, place}
 use Rattle.sound.specs.Lists.{cut-cnt, in-range, unlink-shape, unlink-loose, unlink-mem, link-shape, link-mem}
-use Rattle.sound.specs.Edits.{tiles-at, size-at, snoc-end, snoc-tiles, top-mid, all-mid, Kept, fits-tiles, swallow-is, swallow-kept, clear-is, clear-kept, to-top-is, to-top-kept}
+use Rattle.sound.specs.Edits.{tiles-at, size-at, snoc-end, snoc-tiles, top-mid, all-mid, Kept, tiled-tiles, swallow-is, swallow-kept, clear-is, clear-kept, to-top-is, to-top-kept}
 use Rattle.sound.specs.Flags.{flagsAfter, lastB, lastS, flags-split, flags-join, flags-below, lastB-below, flags-above, after-above, flags-after}
 use Rattle.sound.specs.Homes.{homes-tiles, sizes-mid, homes-unlink, homes-link}
 use Rattle.sound.specs.Ends.{Ends, ends-more, ends-then, ends-giving, ends-by}
@@ -69,14 +69,14 @@ unlink-swallow-ends h w a r t u j x e s o k mx tc tn =
     let U : Tile = tile (t .size + u .size) 1 0 in
     let s₁ : Shape h₁ = unlink-shape h j x s mx in
     let K : Kept h₁ (a ++ U ∷ r) v (size c (t .size + u .size) 1 ∷ []) = swallow-kept h₁ v a r t u e s₁ (unlink-mem h w j x s k mx) tn in
-    let f : fits a × fits (t ∷ u ∷ r) = fits-split a (t ∷ u ∷ r) (subst fits e (fits-tiles h s)) in
+    let f : tiled a × tiled (t ∷ u ∷ r) = tiled-split a (t ∷ u ∷ r) (subst tiled e (tiled-tiles h s)) in
     ends-more ws (swallow c h₁) (rw (swallow-is h₁ v a r t u e s₁) (record {
       mem = K .mem;
       now = record {
         same = refl;
         shape = K .shape;
         homes = homes-tiles h₁ (a ++ U ∷ r)
-            (λ y i. sizes-mid h₁ (a ++ U ∷ r) a (t ∷ u ∷ []) (U ∷ []) r y s₁ (fits-tiles h s)
+            (λ y i. sizes-mid h₁ (a ++ U ∷ r) a (t ∷ u ∷ []) (U ∷ []) r y s₁ (tiled-tiles h s)
             (omega (arith, f .1 .0, f .1 .3 .0), omega (arith, f .1 .1), omega arith, tt) e refl (inl (omega arith)) i
             (omega (
               arith,
@@ -89,7 +89,7 @@ unlink-swallow-ends h w a r t u j x e s o k mx tc tn =
     }))
 
 -- ---- within a join: c, at the end of a, is loose, and so is everything that its end says
-pub record Gap (h : Heap) (a : List Tile) (t : Tile) (r : List Tile) (n : ℕ) : Type 0 where
+pub record Joining (h : Heap) (a : List Tile) (t : Tile) (r : List Tile) (n : ℕ) : Type 0 where
   pub shape : Shape h
   pub homes : Homes h
   pub tiles : h .tiles ≡ a ++ t ∷ r
@@ -108,10 +108,10 @@ first-free b o q s (t ∷ r) T k m = omega (arith, k .1)
 -- the gap after an absorption: x is one of the two that became one
 pub absorbed-gap : (h : Heap) (a r : List Tile) (t u : Tile) (j x n : ℕ) (g : Heap) → h .tiles ≡ a ++ t ∷ u ∷ r → 1 ≤ cnt x (bin h j) → topSize h ≡ n
     → Absorbed (heapOf (unlink j x h)) g (a ++ tile (t .size + u .size) 1 0 ∷ r)
-    → fits a → endFrom 0 a ≤ x → x < endFrom 0 a + t .size + u .size → total (endFrom 0 a) (heapOf (unlink j x h)) ≡ 0
+    → tiled a → endFrom 0 a ≤ x → x < endFrom 0 a + t .size + u .size → total (endFrom 0 a) (heapOf (unlink j x h)) ≡ 0
     → flags (λ y. binned h y) 0 0 0 a → lastB (λ y. binned h y) 0 0 a ≡ 0
     → flagsAfter (λ y. binned h y) (endFrom 0 a + t .size + u .size) (r ++ tile n 1 0 ∷ [])
-    → Gap g a (tile (t .size + u .size) 1 0) r n
+    → Joining g a (tile (t .size + u .size) 1 0) r n
 absorbed-gap h a r t u j x n g e mx en A fa lx hx lo low held high =
     let c : ℕ = endFrom 0 a in
     let U : Tile = tile (t .size + u .size) 1 0 in
@@ -121,7 +121,7 @@ absorbed-gap h a r t u j x n g e mx en A fa lx hx lo low held high =
     let same : (y : ℕ) → (y ≡ x → ⊥) → d y ≡ b y = λ y q. omega (arith, binned-unlink h j x y mx, ind-other y x q) in
     let below : (y : ℕ) → y < c → d y ≡ b y = λ y l. same y (omega arith) in
     let ez : c + t .size + u .size ≡ c + (t .size + u .size) = omega arith in
-    let G : Gap (withTiles (a ++ U ∷ r) h₁) a U r n = record {
+    let G : Joining (withTiles (a ++ U ∷ r) h₁) a U r n = record {
       shape = subst Shape (A .same) (A .shape);
       homes = subst Homes (A .same) (A .homes);
       tiles = refl;
@@ -134,13 +134,13 @@ absorbed-gap h a r t u j x n g e mx en A fa lx hx lo low held high =
       high = subst (λ (o : ℕ). flagsAfter d o (r ++ tile n 1 0 ∷ [])) ez
           (after-above b d (c + t .size + u .size) (r ++ tile n 1 0 ∷ []) (λ y l. same y (omega arith)) high);
     } in
-    subst (λ (g : Heap). Gap g a U r n) (sym (A .same)) G
+    subst (λ (g : Heap). Joining g a U r n) (sym (A .same)) G
 
 -- ---- with the chunk after
 pub record Joined (g : Heap) (a : List Tile) (n : ℕ) : Type 0 where
   pub t : Tile
   pub r : List Tile
-  pub gap : Gap g a t r n
+  pub gap : Joining g a t r n
   pub free : binned g (endFrom 0 a + t .size) ≡ 0
 
 pub next-no : (c : ℕ) (h : Heap) → binned h (next h c) ≡ 0 → joinNext c h ≡ does h []
@@ -151,23 +151,23 @@ pub next-yes : (c x : ℕ) (h : Heap) → next h c ≡ x → 1 ≤ binned h x �
 unfolding joinNext
 next-yes c x h n e = rw (ne-eqb (binned h (next h c)) 0 (λ q. omega (arith, ap (binned h) n)), joinNext) (ap (λ (y : ℕ). absorb y c h) n)
 
-pub next-ends : (h : Heap) (w : List ℕ) (a : List Tile) (t : Tile) (r : List Tile) (n : ℕ) → Gap h a t r n → Mem h w
+pub next-ends : (h : Heap) (w : List ℕ) (a : List Tile) (t : Tile) (r : List Tile) (n : ℕ) → Joining h a t r n → Mem h w
     → Ends (joinNext (endFrom 0 a) h) w (λ g. Joined g a n)
 unfolding absorb
 next-ends h w a t r n G k =
     let c : ℕ = endFrom 0 a in
-    let f : fits a × fits (t ∷ r) = fits-split a (t ∷ r) (subst fits (G .tiles) (fits-tiles h (G .shape))) in
+    let f : tiled a × tiled (t ∷ r) = tiled-split a (t ∷ r) (subst tiled (G .tiles) (tiled-tiles h (G .shape))) in
     let en : next h c ≡ c + t .size = ap (λ (z : ℕ). c + z) (size-at h a r t (G .tiles) (f .0)) in
     ⊎-elim
     (λ z. ends-by (next-no c h (ap (binned h) en ∙ z)) (record { mem = k; now = record { t = t; r = r; gap = G; free = z } }))
     (λ z. ends-by (next-yes c (c + t .size) h en z) (yes r G z f))
     (zero-or (binned h (c + t .size)))
   where
-    yes : (r : List Tile) → Gap h a t r n → 1 ≤ binned h (endFrom 0 a + t .size) → fits a × fits (t ∷ r)
+    yes : (r : List Tile) → Joining h a t r n → 1 ≤ binned h (endFrom 0 a + t .size) → tiled a × tiled (t ∷ r)
         → Ends (absorb (endFrom 0 a + t .size) (endFrom 0 a) h) w (λ g. Joined g a n)
     yes [] G z f =
         let e : topOf h ≡ endFrom 0 a + t .size = ap (endFrom 0) (G .tiles) ∙ snoc-end a t in
-        absurd (omega (arith, G .shape .own (endFrom 0 a + t .size), none-out (h .tiles) 0 (endFrom 0 a + t .size) (fits-tiles h (G .shape)) (inr (omega arith))))
+        absurd (omega (arith, G .shape .own (endFrom 0 a + t .size), none-out (h .tiles) 0 (endFrom 0 a + t .size) (tiled-tiles h (G .shape)) (inr (omega arith))))
     yes (u ∷ r) G z f =
         let c : ℕ = endFrom 0 a in
         let x : ℕ = c + t .size in
@@ -176,7 +176,7 @@ next-ends h w a t r n G k =
         let s = G .shape in
         let lo : total c (heapOf (unlink j x h)) ≡ 0 = omega (arith, G .loose, binned-unlink h j x c mx) in
         let lx : Loose (heapOf (unlink j x h)) x = unlink-loose h j x s mx in
-        let tx : total x (heapOf (unlink j x h)) ≡ 0 = omega (arith, lx, starts-once (h .tiles) 0 x (fits-tiles h s)) in
+        let tx : total x (heapOf (unlink j x h)) ≡ 0 = omega (arith, lx, starts-once (h .tiles) 0 x (tiled-tiles h s)) in
         let E = unlink-swallow-ends h w a r t u j x (G .tiles) s (G .homes) k mx lo tx in
         record {
           mem = E .mem;
@@ -207,12 +207,12 @@ down-bin c x z h r e n s q =
     ∙ ap (λ (y : ℕ). giving y (clearP x y h >>= (λ g. putFirst unsorted c g))) s
     ∙ ap (λ (r : Ran (Unit {0})). giving z (r >>= (λ g. putFirst unsorted c g))) q)
 
-pub down-ends : (h : Heap) (w : List ℕ) (a : List Tile) (n : ℕ) (t : Tile) (r : List Tile) → Gap h a t r n → binned h (endFrom 0 a + t .size) ≡ 0 → Mem h w
+pub down-ends : (h : Heap) (w : List ℕ) (a : List Tile) (n : ℕ) (t : Tile) (r : List Tile) → Joining h a t r n → binned h (endFrom 0 a + t .size) ≡ 0 → Mem h w
     → Ends (putDown (endFrom 0 a) h) w Good
 down-ends h w a n t [] G fr k =
     let c : ℕ = endFrom 0 a in
     let s = G .shape in
-    let f : fits a × fits (t ∷ []) = fits-split a (t ∷ []) (subst fits (G .tiles) (fits-tiles h s)) in
+    let f : tiled a × tiled (t ∷ []) = tiled-split a (t ∷ []) (subst tiled (G .tiles) (tiled-tiles h s)) in
     let en : next h c ≡ topOf h = ap (λ (z : ℕ). c + z) (size-at h a [] t (G .tiles) (f .0)) ∙ sym (ap (endFrom 0) (G .tiles) ∙ snoc-end a t) in
     let K : Kept h a w (size c (h .len - c) 1 ∷ []) = to-top-kept h w a t (G .tiles) s k (G .loose) in
     let lb = G .held in
@@ -221,7 +221,7 @@ down-ends h w a n t [] G fr k =
       now = record {
         shape = K .shape;
         homes = homes-tiles h a
-            (λ y i. sizes-mid h a a (t ∷ []) [] [] y s (fits-tiles h s) tt (G .tiles) (sym (append-nil a)) (inr refl) i
+            (λ y i. sizes-mid h a a (t ∷ []) [] [] y s (tiled-tiles h s) tt (G .tiles) (sym (append-nil a)) (inr refl) i
             (omega (arith, ind-other y c (λ q. omega (arith, ap (λ (z : ℕ). total z h) q, G .loose)))))
             (G .homes);
         flag = flags-join (λ x. binned h x) 0 0 0 a (tile (h .len - c) 1 0 ∷ []) (G .low)
@@ -235,8 +235,8 @@ down-ends h w a n t (u ∷ r) G fr k =
     let e₁ : h .tiles ≡ a₁ ++ u ∷ r = G .tiles ∙ sym (snoc-tiles a (u ∷ r) t) in
     let x : ℕ = endFrom 0 a₁ in
     let ex : x ≡ c + t .size = snoc-end a t in
-    let f : fits a × fits (t ∷ u ∷ r) = fits-split a (t ∷ u ∷ r) (subst fits (G .tiles) (fits-tiles h s)) in
-    let f₁ : fits a₁ × fits (u ∷ r) = fits-split a₁ (u ∷ r) (subst fits e₁ (fits-tiles h s)) in
+    let f : tiled a × tiled (t ∷ u ∷ r) = tiled-split a (t ∷ u ∷ r) (subst tiled (G .tiles) (tiled-tiles h s)) in
+    let f₁ : tiled a₁ × tiled (u ∷ r) = tiled-split a₁ (u ∷ r) (subst tiled e₁ (tiled-tiles h s)) in
     let sz : sizeOf h c ≡ t .size = size-at h a (u ∷ r) t (G .tiles) (f .0) in
     let en : next h c ≡ x = ap (λ (z : ℕ). c + z) sz ∙ sym ex in
     let U : Tile = tile (u .size) 0 (t .size) in
@@ -266,7 +266,7 @@ down-ends h w a n t (u ∷ r) G fr k =
             (homes-tiles h ts
             (λ y i. ⊎-elim
             (λ q. rw q (size-at h₁ a₁ r U refl (f₁ .0) ∙ sym (size-at h a₁ r u e₁ (f₁ .0))))
-            (λ q. sizes-mid h ts a₁ (u ∷ []) (U ∷ []) r y s (fits-tiles h s) (f₁ .1 .0, f₁ .1 .1, omega arith, tt) e₁ refl (inl refl) i
+            (λ q. sizes-mid h ts a₁ (u ∷ []) (U ∷ []) r y s (tiled-tiles h s) (f₁ .1 .0, f₁ .1 .1, omega arith, tt) e₁ refl (inl refl) i
             (omega (arith, ind-other y x q)))
             (eq? y x))
             (G .homes));
@@ -292,7 +292,7 @@ down-ends h w a n t (u ∷ r) G fr k =
 pub record Opened (g : Heap) (a : List Tile) (n : ℕ) : Type 0 where
   pub t : Tile
   pub r : List Tile
-  pub gap : Gap g a t r n
+  pub gap : Joining g a t r n
 
 pub record Before (b : ℕ → ℕ) (o : ℕ) (a : List Tile) : Type 0 where
   pub a₀ : List Tile
@@ -322,7 +322,7 @@ module _ (h : Heap) (w : List ℕ) (a r : List Tile) (t : Tile) (e : h .tiles �
   open-flags = flags-split b 0 0 0 a (t ∷ (r ++ tile (topSize h) 1 0 ∷ []))
       (subst (flags b 0 0 0) (ap (λ (l : List Tile). l ++ tile (topSize h) 1 0 ∷ []) e ∙ append-assoc a (t ∷ r) (tile (topSize h) 1 0 ∷ [])) (g .flag))
 
-  pub gap-here : t .p ≡ 1 → Gap h a t r (topSize h)
+  pub gap-here : t .p ≡ 1 → Joining h a t r (topSize h)
   gap-here p =
       let k = open-flags in
       record {
@@ -351,9 +351,9 @@ module _ (h : Heap) (w : List ℕ) (a r : List Tile) (t : Tile) (e : h .tiles �
       let mq : 1 ≤ cnt q (bin h j) = bin-has h q (omega (arith, was)) in
       let sh = g .shape in
       let e₀ : h .tiles ≡ a₀ ++ s ∷ t ∷ r = e ∙ ap (λ (l : List Tile). l ++ t ∷ r) ea ∙ snoc-tiles a₀ (t ∷ r) s in
-      let f : fits a₀ × fits (s ∷ t ∷ r) = fits-split a₀ (s ∷ t ∷ r) (subst fits e₀ (fits-tiles h sh)) in
+      let f : tiled a₀ × tiled (s ∷ t ∷ r) = tiled-split a₀ (s ∷ t ∷ r) (subst tiled e₀ (tiled-tiles h sh)) in
       let lq : Loose (heapOf (unlink j q h)) q = unlink-loose h j q sh mq in
-      let tq : total q (heapOf (unlink j q h)) ≡ 0 = omega (arith, lq, starts-once (h .tiles) 0 q (fits-tiles h sh)) in
+      let tq : total q (heapOf (unlink j q h)) ≡ 0 = omega (arith, lq, starts-once (h .tiles) 0 q (tiled-tiles h sh)) in
       let tc : total c (heapOf (unlink j q h)) ≡ 0 = omega (arith, lo, binned-unlink h j q c mq) in
       let E = unlink-swallow-ends h w a₀ r s t j q e₀ sh (g .homes) k mq tq (rw ec at tc) in
       let F = open-flags in
@@ -379,7 +379,7 @@ pub join-prev : (c q : ℕ) (h : Heap) → pOf h c ≡ 0 → before h c ≡ q �
 unfolding join
 join-prev c q h e n = rw (eq-eqb (pOf h c) 0 e, join) (ap (λ (q : ℕ). absorb q q h >>= (λ h₁. joinNext q h₁ >>= (λ h₂. putDown q h₂))) n)
 
-pub rest-ends : (h : Heap) (w : List ℕ) (a : List Tile) (n : ℕ) (t : Tile) (r : List Tile) → Gap h a t r n → Mem h w
+pub rest-ends : (h : Heap) (w : List ℕ) (a : List Tile) (n : ℕ) (t : Tile) (r : List Tile) → Joining h a t r n → Mem h w
     → Ends (joinNext (endFrom 0 a) h >>= (λ h₂. putDown (endFrom 0 a) h₂)) w Good
 rest-ends h w a n t r G k =
     ends-then (λ h₂. putDown (endFrom 0 a) h₂) (next-ends h w a t r n G k)
@@ -390,7 +390,7 @@ pub join-ends : (h : Heap) (w : List ℕ) (c : ℕ) → Good h → Mem h w → L
 join-ends h w c g k lo =
     let P : Place (h .tiles) 0 c = place (h .tiles) 0 c (omega arith) in
     subst (λ (c : ℕ). Ends (join c h) w Good) (sym (P .at))
-    (go P (omega (arith, lo, starts-once (h .tiles) 0 c (fits-tiles h (g .shape)), ap (λ (x : ℕ). total x h) (P .at))))
+    (go P (omega (arith, lo, starts-once (h .tiles) 0 c (tiled-tiles h (g .shape)), ap (λ (x : ℕ). total x h) (P .at))))
   where
     go : (P : Place (h .tiles) 0 c) → total (endFrom 0 (P .a)) h ≡ 0 → Ends (join (endFrom 0 (P .a)) h) w Good
     go P lo =
@@ -398,7 +398,7 @@ join-ends h w c g k lo =
         let t = P .t in
         let r = P .z in
         let x : ℕ = endFrom 0 a in
-        let f : fits a × fits (t ∷ r) = fits-split a (t ∷ r) (subst fits (P .tiles) (fits-tiles h (g .shape))) in
+        let f : tiled a × tiled (t ∷ r) = tiled-split a (t ∷ r) (subst tiled (P .tiles) (tiled-tiles h (g .shape))) in
         let tt′ = tiles-at h a (t ∷ r) (P .tiles) (f .0) in
         let ep : pOf h x ≡ t .p = ap hdP (tt′ .1) in
         let F = open-flags h w a r t (P .tiles) g lo in

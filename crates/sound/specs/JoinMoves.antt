@@ -12,11 +12,11 @@ use Rattle.machine.specs.Heap.{Tile, tile, Heap, bin, withTiles, endFrom, start
 use Rattle.machine.specs.Writes.{Write, apply, heapOf, writes, does, _>>=_, size, note}
 use Rattle.machine.specs.Primitives.{putFirst, unlink, swallow}
 use Rattle.machine.specs.Release.{absorb, joinNext, putDown, join}
-use Rattle.sound.specs.Relation.{fits, Mem, Shape, Loose, Good}
-use Rattle.sound.specs.Tiles.{zero-or, fits-split, end-le, end-append, starts-append, none-out, starts-once, Place, place}
+use Rattle.sound.specs.Relation.{tiled, Mem, Shape, Loose, Good}
+use Rattle.sound.specs.Tiles.{zero-or, tiled-split, end-le, end-append, starts-append, none-out, starts-once, Place, place}
 use Rattle.sound.specs.Lists.{unlink-shape}
-use Rattle.sound.specs.Edits.{tiles-at, size-at, snoc-end, snoc-tiles, Kept, fits-tiles, clear-is, clear-kept}
-use Rattle.sound.specs.Join.{bin-has, Gap, next-no, next-yes, next-ends, down-top, down-bin, Before, before-of, lst-starts, open-flags, gap-here, prev-ends, join-here, join-prev}
+use Rattle.sound.specs.Edits.{tiles-at, size-at, snoc-end, snoc-tiles, Kept, tiled-tiles, clear-is, clear-kept}
+use Rattle.sound.specs.Join.{bin-has, Joining, next-no, next-yes, next-ends, down-top, down-bin, Before, before-of, lst-starts, open-flags, gap-here, prev-ends, join-here, join-prev}
 use Rattle.sound.specs.Moves.{nil, one, any, Moved, listed-not, moved-then, moved-giving, moved-by, unlink-moved, link-moved, swallow-moved, clear-moved, to-top-moved}
 
 -- q leaves its bin, and the chunk at the end of a takes in the next
@@ -30,34 +30,34 @@ absorb-moved h a r t u j q o e s m bal out =
     (unlink-moved h j q s m) (swallow-moved (heapOf (unlink j q h)) a r t u e (unlink-shape h j q s m))
     (λ b x. omega (arith, bal x)) (λ x lo z. (refl, out x lo z))
 
-next-moved : (h : Heap) (a : List Tile) (t : Tile) (r : List Tile) (n : ℕ) → Gap h a t r n
+next-moved : (h : Heap) (a : List Tile) (t : Tile) (r : List Tile) (n : ℕ) → Joining h a t r n
     → Moved h (joinNext (endFrom 0 a) h) (any (one (endFrom 0 a))) (one (endFrom 0 a))
 unfolding absorb
 next-moved h a t r n G =
     let c : ℕ = endFrom 0 a in
-    let f : fits a × fits (t ∷ r) = fits-split a (t ∷ r) (subst fits (G .tiles) (fits-tiles h (G .shape))) in
+    let f : tiled a × tiled (t ∷ r) = tiled-split a (t ∷ r) (subst tiled (G .tiles) (tiled-tiles h (G .shape))) in
     let en : next h c ≡ c + t .size = ap (λ (z : ℕ). c + z) (size-at h a r t (G .tiles) (f .0)) in
     ⊎-elim
     (λ z. moved-by (next-no c h (ap (binned h) en ∙ z)) (record { count = λ x. omega arith; same = λ x lo y. refl; spare = λ x lo y. tt }))
     (λ z. moved-by (next-yes c (c + t .size) h en z) (yes r G z))
     (zero-or (binned h (c + t .size)))
   where
-    yes : (r : List Tile) → Gap h a t r n → 1 ≤ binned h (endFrom 0 a + t .size)
+    yes : (r : List Tile) → Joining h a t r n → 1 ≤ binned h (endFrom 0 a + t .size)
         → Moved h (absorb (endFrom 0 a + t .size) (endFrom 0 a) h) (any (one (endFrom 0 a))) (one (endFrom 0 a))
     yes [] G z =
         let e : topOf h ≡ endFrom 0 a + t .size = ap (endFrom 0) (G .tiles) ∙ snoc-end a t in
-        absurd (omega (arith, G .shape .own (endFrom 0 a + t .size), none-out (h .tiles) 0 (endFrom 0 a + t .size) (fits-tiles h (G .shape)) (inr (omega arith))))
+        absurd (omega (arith, G .shape .own (endFrom 0 a + t .size), none-out (h .tiles) 0 (endFrom 0 a + t .size) (tiled-tiles h (G .shape)) (inr (omega arith))))
     yes (u ∷ r) G z =
         let x : ℕ = endFrom 0 a + t .size in
         absorb-moved h a r t u (binHas h x) x (one (endFrom 0 a)) (G .tiles) (G .shape) (bin-has h x z) (λ y. refl)
         (λ y lo i. omega (arith, listed-not h y x (G .shape) lo (omega arith)))
 
-down-moved : (h : Heap) (w : List ℕ) (a : List Tile) (n : ℕ) (t : Tile) (r : List Tile) → Gap h a t r n → Mem h w
+down-moved : (h : Heap) (w : List ℕ) (a : List Tile) (n : ℕ) (t : Tile) (r : List Tile) → Joining h a t r n → Mem h w
     → Moved h (putDown (endFrom 0 a) h) (any nil) (one (endFrom 0 a))
 down-moved h w a n t [] G k =
     let c : ℕ = endFrom 0 a in
     let s = G .shape in
-    let f : fits a × fits (t ∷ []) = fits-split a (t ∷ []) (subst fits (G .tiles) (fits-tiles h s)) in
+    let f : tiled a × tiled (t ∷ []) = tiled-split a (t ∷ []) (subst tiled (G .tiles) (tiled-tiles h s)) in
     let en : next h c ≡ topOf h = ap (λ (z : ℕ). c + z) (size-at h a [] t (G .tiles) (f .0)) ∙ sym (ap (endFrom 0) (G .tiles) ∙ snoc-end a t) in
     moved-by (down-top c h en)
     (moved-giving (h .len - c) (λ x. refl) (to-top-moved h a t (G .tiles) s))
@@ -67,8 +67,8 @@ down-moved h w a n t (u ∷ r) G k =
     let a₁ : List Tile = a ++ t ∷ [] in
     let e₁ : h .tiles ≡ a₁ ++ u ∷ r = G .tiles ∙ sym (snoc-tiles a (u ∷ r) t) in
     let x : ℕ = endFrom 0 a₁ in
-    let f : fits a × fits (t ∷ u ∷ r) = fits-split a (t ∷ u ∷ r) (subst fits (G .tiles) (fits-tiles h s)) in
-    let f₁ : fits a₁ × fits (u ∷ r) = fits-split a₁ (u ∷ r) (subst fits e₁ (fits-tiles h s)) in
+    let f : tiled a × tiled (t ∷ u ∷ r) = tiled-split a (t ∷ u ∷ r) (subst tiled (G .tiles) (tiled-tiles h s)) in
+    let f₁ : tiled a₁ × tiled (u ∷ r) = tiled-split a₁ (u ∷ r) (subst tiled e₁ (tiled-tiles h s)) in
     let sz : sizeOf h c ≡ t .size = size-at h a (u ∷ r) t (G .tiles) (f .0) in
     let en : next h c ≡ x = ap (λ (z : ℕ). c + z) sz ∙ sym (snoc-end a t) in
     let U : Tile = tile (u .size) 0 (t .size) in
@@ -89,7 +89,7 @@ down-moved h w a n t (u ∷ r) G k =
     (λ b y. refl) (λ y l z. (z, z))))
 
 -- joined with the chunk after it and put down
-rest-moved : (h : Heap) (w : List ℕ) (a : List Tile) (n : ℕ) (t : Tile) (r : List Tile) → Gap h a t r n → Mem h w
+rest-moved : (h : Heap) (w : List ℕ) (a : List Tile) (n : ℕ) (t : Tile) (r : List Tile) → Joining h a t r n → Mem h w
     → Moved h (joinNext (endFrom 0 a) h >>= (λ h₂. putDown (endFrom 0 a) h₂)) (any nil) (one (endFrom 0 a))
 rest-moved h w a n t r G k =
     let c : ℕ = endFrom 0 a in
@@ -105,7 +105,7 @@ unfolding absorb
 join-moved h w c g k lo =
     let P : Place (h .tiles) 0 c = place (h .tiles) 0 c (omega arith) in
     subst (λ (c : ℕ). Moved h (join c h) (any nil) (one c)) (sym (P .at))
-    (go P (omega (arith, lo, starts-once (h .tiles) 0 c (fits-tiles h (g .shape)), ap (λ (x : ℕ). total x h) (P .at))))
+    (go P (omega (arith, lo, starts-once (h .tiles) 0 c (tiled-tiles h (g .shape)), ap (λ (x : ℕ). total x h) (P .at))))
   where
     go : (P : Place (h .tiles) 0 c) → total (endFrom 0 (P .a)) h ≡ 0 → Moved h (join (endFrom 0 (P .a)) h) (any nil) (one (endFrom 0 (P .a)))
     go P lo =
@@ -114,7 +114,7 @@ join-moved h w c g k lo =
         let r = P .z in
         let x : ℕ = endFrom 0 a in
         let s = g .shape in
-        let f : fits a × fits (t ∷ r) = fits-split a (t ∷ r) (subst fits (P .tiles) (fits-tiles h s)) in
+        let f : tiled a × tiled (t ∷ r) = tiled-split a (t ∷ r) (subst tiled (P .tiles) (tiled-tiles h s)) in
         let tt′ = tiles-at h a (t ∷ r) (P .tiles) (f .0) in
         let ep : pOf h x ≡ t .p = ap hdP (tt′ .1) in
         let F = open-flags h w a r t (P .tiles) g lo in

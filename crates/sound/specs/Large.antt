@@ -1,5 +1,5 @@
 -- Steps 6, 7 and 9 of grant: the best fit in the own bin, the first bin above, the top. Each keeps a sound heap; what it gives is at least b and new among
--- the loose. The found chunk fits by the list's tests, or because bins rise with sizes. Assumes nothing.
+-- the loose. The found chunk tiled by the list's tests, or because bins rise with sizes. Assumes nothing.
 use mathlib.Core.Path.{_≡_, refl, sym, ap, _∙_}
 use mathlib.Core.List.{List, [], _∷_}
 use mathlib.Core.Logic.{_⊎_, inl, inr, ⊎-elim}
@@ -25,10 +25,10 @@ use Rattle.sound.specs.Take.{step8-leaves}
 use Rattle.sound.specs.Small.{some-has}
 use Rattle.machine.specs.declared.{Got.Got, Got.the-variants.At, Got.the-variants.Nothing}
 
--- ---- 6. the smallest that fits
-leastFit-fits : (f : ℕ → ℕ) (b : ℕ) (l : List ℕ) → (leastFit f b l ≡ 0) ⊎ (b ≤ leastFit f b l)
-leastFit-fits f b [] = inl refl
-leastFit-fits f b (x ∷ l) = go (leastFit-fits f b l) (ltb (f x) b) refl (eqb (leastFit f b l) 0) refl
+-- ---- 6. the smallest that tiled
+leastFit-enough : (f : ℕ → ℕ) (b : ℕ) (l : List ℕ) → (leastFit f b l ≡ 0) ⊎ (b ≤ leastFit f b l)
+leastFit-enough f b [] = inl refl
+leastFit-enough f b (x ∷ l) = go (leastFit-enough f b l) (ltb (f x) b) refl (eqb (leastFit f b l) 0) refl
   where
     go : (leastFit f b l ≡ 0) ⊎ (b ≤ leastFit f b l) → (t : Bool) → ltb (f x) b ≡ t → (q : Bool) → eqb (leastFit f b l) 0 ≡ q
         → (_≡_ {A = ℕ} (elim t [ true ↦ leastFit f b l | false ↦ elim q [ true ↦ f x | false ↦ min (f x) (leastFit f b l) ] ]) 0) ⊎ (b ≤ elim t
@@ -66,7 +66,7 @@ fit-has f b l c e = go (eqb (leastFit f b l) 0) refl e
     go true q e = absurd (let z : _≡_ {A = ℕ} 0 1 = cc in omega arith)
     go false q e =
         let k = equals-has f (leastFit f b l) l c (second-has (equals f (leastFit f b l) l) c e) in
-        (k .0, ⊎-elim (λ z. absurd (eqb-false (leastFit f b l) 0 q z)) (λ z. omega (arith, k .1)) (leastFit-fits f b l))
+        (k .0, ⊎-elim (λ z. absurd (eqb-false (leastFit f b l) 0 q z)) (λ z. omega (arith, k .1)) (leastFit-enough f b l))
 
 -- ---- 7. the first non-empty bin from j on
 pub firstBin-has : (n j : ℕ) (h : Heap) (k : ℕ) → firstBin n j h ≡ At k → (some? (bin h k) ≡ true) × (j ≤ k)

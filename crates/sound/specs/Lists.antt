@@ -183,7 +183,7 @@ unlink-shape h j c s mc =
     let l : List ℕ = pre c (bin h j) ++ post c (bin h j) in
     record {
       small = s .small;
-      fit = s .fit;
+      sizes = s .sizes;
       stacked74 = s .stacked74;
       binned127 = length-set (h .bins) j l ∙ s .binned127;
       own = λ x. omega (
@@ -215,7 +215,7 @@ unlink-mem h w j c s m mc =
     let xs : List ℕ = pre c (bin h j) in
     let ys : List ℕ = post c (bin h j) in
     let S : List ℕ = Starts h in
-    let g : Grid S (length w) = grid h (length w) (s .fit) (m .long) in
+    let g : Grid S (length w) = grid h (length w) (s .sizes) (m .long) in
     let e = cut c (bin h j) mc in
     let cc : (x : ℕ) → cnt x (bin h j) ≡ cnt x xs + (ind (eqb x c) + cnt x ys) = cut-cnt c (bin h j) mc in
     let up : (x : ℕ) → cnt x (xs ++ ys) ≡ cnt x xs + cnt x ys = λ x. cnt-append x xs ys in
@@ -234,7 +234,7 @@ pub link-shape : (h : Heap) (j c : ℕ) (xs ys : List ℕ) → Shape h → j < l
 link-shape h j c xs ys s hj lo e =
     record {
       small = s .small;
-      fit = s .fit;
+      sizes = s .sizes;
       stacked74 = s .stacked74;
       binned127 = length-set (h .bins) j (xs ++ c ∷ ys) ∙ s .binned127;
       own = λ x. ⊎-elim
@@ -247,7 +247,7 @@ pub link-mem : (h : Heap) (w : List ℕ) (j c : ℕ) (xs ys : List ℕ) → Shap
     → Mem (heapOf (linkIn j c xs ys h)) (apply (writes (linkIn j c xs ys h)) w)
 link-mem h w j c xs ys s m hj lo e =
     let S : List ℕ = Starts h in
-    let g : Grid S (length w) = grid h (length w) (s .fit) (m .long) in
+    let g : Grid S (length w) = grid h (length w) (s .sizes) (m .long) in
     let L : List ℕ = c ∷ (xs ++ ys) in
     let up : (x : ℕ) → cnt x (bin h j) ≡ cnt x xs + cnt x ys = λ x. ap (cnt x) e ∙ cnt-append x xs ys in
     let up′ : (x : ℕ) → cnt x (xs ++ ys) ≡ cnt x xs + cnt x ys = λ x. cnt-append x xs ys in

@@ -16,7 +16,7 @@ use Rattle.machine.specs.Release.{release, consolidate, settle}
 use Rattle.machine.specs.Grant.{grant}
 use Rattle.sound.specs.Relation.{Mem, Shape, Loose, Good}
 use Rattle.sound.specs.Tiles.{starts-once}
-use Rattle.sound.specs.Edits.{fits-tiles}
+use Rattle.sound.specs.Edits.{tiled-tiles}
 use Rattle.sound.specs.Spares.{Spares, spared}
 use Rattle.sound.specs.Moves.{answerOf, nil, one, any, Moved, moved-keeps}
 use Rattle.sound.specs.Leaves.{Leaves, gave, Still, Cached, Found}
@@ -33,7 +33,7 @@ live-loose h c e =
 
 pub loose-live : (h : Heap) (c : ℕ) → Shape h → Loose h c → live? h c ≡ true
 loose-live h c s lo =
-    let once : cnt c (starts h) ≤ 1 = starts-once (h .tiles) 0 c (fits-tiles h s) in
+    let once : cnt c (starts h) ≤ 1 = starts-once (h .tiles) 0 c (tiled-tiles h s) in
     rw (lt-ltb 0 (cnt c (starts h)) (omega arith), both) (eq-eqb (total c h) 0 (omega arith))
 
 -- of the blocks of which X holds: they stay as they are, and none of their usable words is written
@@ -64,7 +64,7 @@ pub record Goes {A : Type 0} (c : ℕ) (h : Heap) (r : Ran A) : Type 0 where
 moved-goes : {A : Type 0} (c : ℕ) (h : Heap) (r : Ran A) → Shape h → Moved h r (any nil) (one c) → Goes c h r
 moved-goes c h r s m = record {
   tame = moved-tame (λ x y. ind-other x c y) m;
-  gone = λ lo. omega (arith, m .count c, ind-same c, starts-once (h .tiles) 0 c (fits-tiles h s));
+  gone = λ lo. omega (arith, m .count c, ind-same c, starts-once (h .tiles) 0 c (tiled-tiles h s));
   only = λ x lo. omega (arith, m .count x);
 }
 
@@ -94,7 +94,7 @@ found-gives b h w (ran g ws (At c)) s l = record {
       subst (λ (d : ℕ). Loose g d × (b ≤ sizeOf g d) × (Loose h d → ⊥)) q (
         omega (arith, n, ind-same c, s .own c),
         l .now .1,
-        (λ lo. omega (arith, n, ind-same c, lo, l .now .0 .shape .own c, starts-once (g .tiles) 0 c (fits-tiles g (l .now .0 .shape)))),
+        (λ lo. omega (arith, n, ind-same c, lo, l .now .0 .shape .own c, starts-once (g .tiles) 0 c (tiled-tiles g (l .now .0 .shape)))),
       );
   only = λ x e lo. omega (arith, l .moved .count x, ind-other x c (λ q. e (ap At (sym q))));
 }

@@ -13,10 +13,10 @@ use Rattle.machine.specs.Count.{eq?, ind-same, ind-other, cnt-here, cntAll-set}
 use Rattle.machine.specs.Heap.{Tile, tile, Heap, stack, bin, withTiles, endFrom, startsFrom, topOf, starts, sizeOf, next, total}
 use Rattle.machine.specs.Writes.{Write, Ran, heapOf, writes, giving, more, _>>=_, size, note, link, ran}
 use Rattle.machine.specs.Primitives.{push, pop, linkIn, unlink, swallow, clearP, setP, setNote, cutAt, toTop, cutTop, setRemainder}
-use Rattle.sound.specs.Relation.{fits, Shape, Loose}
-use Rattle.sound.specs.Tiles.{fits-split, starts-append, starts-once}
+use Rattle.sound.specs.Relation.{tiled, Shape, Loose}
+use Rattle.sound.specs.Tiles.{tiled-split, starts-append, starts-once}
 use Rattle.sound.specs.Frames.{starts-all}
-use Rattle.sound.specs.Edits.{size-at, snoc-end, same-starts, fits-tiles, swallow-is, clear-is, set-is, note-is, cut-is, to-top-is}
+use Rattle.sound.specs.Edits.{size-at, snoc-end, same-starts, tiled-tiles, swallow-is, clear-is, set-is, note-is, cut-is, to-top-is}
 use Rattle.sound.specs.Homes.{sizes-at}
 use Rattle.sound.specs.Join.{binned-unlink, binned-link}
 use Rattle.sound.specs.Spares.{Spares, spares-append, spare-links, unlink-spares, link-spares, spare-size, spare-note}
@@ -46,7 +46,7 @@ one-not c x e q = omega (arith, ap (λ (y : ℕ). ind (eqb y c)) q, ind-same c)
 -- a listed chunk is not loose
 pub listed-not : (h : Heap) (x q : ℕ) → Shape h → Loose h x → 1 ≤ total q h → one q x ≡ 0
 listed-not h x q s lo m = ⊎-elim
-    (λ e. absurd (omega (arith, lo, ap (λ (y : ℕ). total y h) e, starts-once (h .tiles) 0 x (fits-tiles h s))))
+    (λ e. absurd (omega (arith, lo, ap (λ (y : ℕ). total y h) e, starts-once (h .tiles) 0 x (tiled-tiles h s))))
     (λ e. ind-other x q e)
     (eq? x q)
 
@@ -126,7 +126,7 @@ module _ (h : Heap) (a z : List Tile) (t u : Tile) (e : h .tiles ≡ a ++ t ∷ 
       let n : ℕ = c + t .size in
       let U : Tile = tile (t .size + u .size) 1 0 in
       let ts : List Tile = a ++ U ∷ z in
-      let f : fits a × fits (t ∷ u ∷ z) = fits-split a (t ∷ u ∷ z) (subst fits e (fits-tiles h s)) in
+      let f : tiled a × tiled (t ∷ u ∷ z) = tiled-split a (t ∷ u ∷ z) (subst tiled e (tiled-tiles h s)) in
       let ez : c + t .size + u .size ≡ c + (t .size + u .size) = omega arith in
       let cs : (x : ℕ) → cnt x (startsFrom 0 ts) + one n x ≡ cnt x (starts h) = λ x.
       omega (
@@ -139,7 +139,7 @@ module _ (h : Heap) (a z : List Tile) (t u : Tile) (e : h .tiles ≡ a ++ t ∷ 
       ) in
       moved-by (swallow-is h [] a z t u e s) (record {
         count = λ x. omega (arith, cs x);
-        same = λ x lo y. sizes-at h ts a (t ∷ u ∷ []) (U ∷ []) z x (fits-tiles h s)
+        same = λ x lo y. sizes-at h ts a (t ∷ u ∷ []) (U ∷ []) z x (tiled-tiles h s)
             (omega (arith, f .1 .0, f .1 .3 .0), omega (arith, f .1 .1), omega arith, tt) e refl (inl (omega arith)) (omega arith) (omega arith);
         spare = λ x lo y. spare-size h x c (t .size + u .size) 1 s lo
             (omega (arith, starts-all h c, ap (λ (l : List Tile). cnt c (startsFrom 0 l)) e, starts-append 0 a (t ∷ u ∷ z) c, ind-same c));
@@ -147,8 +147,8 @@ module _ (h : Heap) (a z : List Tile) (t u : Tile) (e : h .tiles ≡ a ++ t ∷ 
 
 -- ---- P and the note of a chunk u; a chunk u is cut
 module _ (h : Heap) (a z : List Tile) (u : Tile) (e : h .tiles ≡ a ++ u ∷ z) (s : Shape h) where
-  fu : fits a × fits (u ∷ z)
-  fu = fits-split a (u ∷ z) (subst fits e (fits-tiles h s))
+  fu : tiled a × tiled (u ∷ z)
+  fu = tiled-split a (u ∷ z) (subst tiled e (tiled-tiles h s))
 
   here : 1 ≤ cnt (endFrom 0 a) (starts h)
   here = omega (arith, ap (λ (l : List Tile). cnt (endFrom 0 a) (startsFrom 0 l)) e, starts-append 0 a (u ∷ z) (endFrom 0 a), ind-same (endFrom 0 a))
@@ -158,7 +158,7 @@ module _ (h : Heap) (a z : List Tile) (u : Tile) (e : h .tiles ≡ a ++ u ∷ z)
       let f = fu in
       ⊎-elim
       (λ y. rw y (size-at (withTiles (a ++ v ∷ z) h) a z v refl (f .0) ∙ q ∙ sym (size-at h a z u e (f .0))))
-      (λ y. sizes-at h (a ++ v ∷ z) a (u ∷ []) (v ∷ []) z x (fits-tiles h s) (omega (arith, f .1 .0), omega (arith, f .1 .1), p, tt) e refl
+      (λ y. sizes-at h (a ++ v ∷ z) a (u ∷ []) (v ∷ []) z x (tiled-tiles h s) (omega (arith, f .1 .0), omega (arith, f .1 .1), p, tt) e refl
       (inl (omega arith)) m (omega (arith, ind-other x (endFrom 0 a) y)))
       (eq? x (endFrom 0 a))
 
@@ -218,7 +218,7 @@ module _ (h : Heap) (a z : List Tile) (u : Tile) (e : h .tiles ≡ a ++ u ∷ z)
         ap (λ (o : ℕ). cnt x (startsFrom o z)) ez,
       ) in
       let sz : (x : ℕ) → Loose h x → one c x ≡ 0 → sizeOf h₁ x ≡ sizeOf h x = λ x lo y.
-      sizes-at h ts a (u ∷ []) (tile b 1 0 ∷ tile (u .size - b) 1 0 ∷ []) z x (fits-tiles h s)
+      sizes-at h ts a (u ∷ []) (tile b 1 0 ∷ tile (u .size - b) 1 0 ∷ []) z x (tiled-tiles h s)
       (b16, b32, omega arith, (omega (arith, f .1 .0), omega arith, omega arith, tt)) e refl (inl (omega arith)) (omega arith) (omega arith) in
       let i = here in
       moved-by (cut-is h [] a z u e s b) (record {
@@ -238,7 +238,7 @@ to-top-moved h a t e s =
     let c : ℕ = endFrom 0 a in
     moved-by (to-top-is h a t e s) (record {
       count = λ x. omega (arith, ap (λ (l : List Tile). cnt x (startsFrom 0 l)) e, starts-append 0 a (t ∷ []) x);
-      same = λ x lo y. sizes-at h a a (t ∷ []) [] [] x (fits-tiles h s) tt e (sym (append-nil a)) (inr refl) (omega arith) (omega arith);
+      same = λ x lo y. sizes-at h a a (t ∷ []) [] [] x (tiled-tiles h s) tt e (sym (append-nil a)) (inr refl) (omega arith) (omega arith);
       spare = λ x lo y. spare-size h x c (h .len - c) 1 s lo
           (omega (arith, starts-all h c, ap (λ (l : List Tile). cnt c (startsFrom 0 l)) e, starts-append 0 a (t ∷ []) c, ind-same c));
     })
@@ -251,7 +251,7 @@ cut-top-moved h b s b16 b32 s₁ =
     let h₁ : Heap = withTiles (a ++ tile b 1 0 ∷ []) h in
     let cs : (x : ℕ) → cnt x (starts h₁) ≡ cnt x (starts h) + one c x = λ x. omega (arith, starts-append 0 a (tile b 1 0 ∷ []) x) in
     let sz : (x : ℕ) → Loose h x → sizeOf h₁ x ≡ sizeOf h x = λ x lo.
-    sizes-at h (a ++ tile b 1 0 ∷ []) a [] (tile b 1 0 ∷ []) [] x (fits-tiles h s) (b16, b32, omega arith, tt) (sym (append-nil a)) refl
+    sizes-at h (a ++ tile b 1 0 ∷ []) a [] (tile b 1 0 ∷ []) [] x (tiled-tiles h s) (b16, b32, omega arith, tt) (sym (append-nil a)) refl
     (inr refl) (omega arith) refl in
     record {
       count = λ x. omega (arith, cs x);

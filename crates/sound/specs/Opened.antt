@@ -30,7 +30,7 @@ opened-good : (n : ℕ) → n % 16 ≡ 0 → 32 ≤ n → n ≤ 262144 → Good 
 opened-good n e l m = record {
   shape = record {
     small = m;
-    fit = (omega arith, omega arith, omega arith, tt);
+    sizes = (omega arith, omega arith, omega arith, tt);
     stacked74 = refl;
     binned127 = refl;
     own =

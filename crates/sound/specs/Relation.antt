@@ -17,9 +17,9 @@ abbrev pub all : Heap → List Tile
 all h = h .tiles ++ tile (topSize h) 1 0 ∷ []
 
 -- sizes are multiples of 16 and at least 32, P is a bit
-abbrev pub fits : List Tile → Type 0
-fits [] = Unit {0}
-fits (t ∷ ts) = (t .size % 16 ≡ 0) × (leastChunk ≤ t .size) × (t .p ≤ 1) × fits ts
+abbrev pub tiled : List Tile → Type 0
+tiled [] = Unit {0}
+tiled (t ∷ ts) = (t .size % 16 ≡ 0) × (leastChunk ≤ t .size) × (t .p ≤ 1) × tiled ts
 
 -- the words of tiles from offset o on: each size word, and the previous size where P is clear
 abbrev pub tilesAt : List ℕ → ℕ → List Tile → Type 0
@@ -44,7 +44,7 @@ pub record Mem (h : Heap) (w : List ℕ) : Type 0 where
 -- ---- after every primitive: the tiles fill the arena, each listed chunk is a chunk but the top, and in one list once
 pub record Shape (h : Heap) : Type 0 where
   pub small : h .len ≤ mostArena
-  pub fit : fits (all h)
+  pub sizes : tiled (all h)
   pub stacked74 : length (h .stacks) ≡ 74
   pub binned127 : length (h .bins) ≡ 127
   pub own : (x : ℕ) → total x h ≤ cnt x (starts h)

@@ -14,11 +14,11 @@ use Rattle.machine.specs.Count.{eq?, ind-other, cnt-append, cnt-here, cnt-le-al
 use Rattle.machine.specs.Heap.{Tile, tile, Heap, bin, endFrom, startsFrom, topSize, starts, sizeOf}
 use Rattle.machine.specs.Writes.{Write, who, field, value, put, apply, writes, size, note}
 use Rattle.machine.specs.Primitives.{fwdTo, backTo, linkIn, unlink}
-use Rattle.sound.specs.Relation.{all, fits, Shape, Loose}
-use Rattle.sound.specs.Tiles.{zero-or, fits-split, starts-append, Start, start, starts-once, Place, place}
+use Rattle.sound.specs.Relation.{all, tiled, Shape, Loose}
+use Rattle.sound.specs.Tiles.{zero-or, tiled-split, starts-append, Start, start, starts-once, Place, place}
 use Rattle.sound.specs.Frames.{Starts, starts-all, field-lt, Sub, LinkW, link-append}
 use Rattle.sound.specs.Lists.{cut-cnt, fwd-w, back-w, link-more}
-use Rattle.sound.specs.Edits.{size-at, fits-tiles, size-32, size-16}
+use Rattle.sound.specs.Edits.{size-at, tiled-tiles, size-32, size-16}
 
 -- none of ws writes a usable word of the block x of size s: words x / 8 + 2 to (x + s) / 8
 abbrev pub Spares : ℕ → ℕ → List Write → Type 0
@@ -42,7 +42,7 @@ clear-of h x y s mx my =
     let P : Place (h .tiles) 0 x = place (h .tiles) 0 x mx in
     let T : Tile = tile (topSize h) 1 0 in
     let e : all h ≡ P .a ++ P .t ∷ (P .z ++ T ∷ []) = ap (λ (l : List Tile). l ++ T ∷ []) (P .tiles) ∙ append-assoc (P .a) (P .t ∷ P .z) (T ∷ []) in
-    let f : fits (P .a) × fits (P .t ∷ (P .z ++ T ∷ [])) = fits-split (P .a) (P .t ∷ (P .z ++ T ∷ [])) (subst fits e (s .fit)) in
+    let f : tiled (P .a) × tiled (P .t ∷ (P .z ++ T ∷ [])) = tiled-split (P .a) (P .t ∷ (P .z ++ T ∷ [])) (subst tiled e (s .sizes)) in
     let sz : sizeOf h x ≡ P .t .size = ap (sizeOf h) (P .at) ∙ size-at h (P .a) (P .z) (P .t) (P .tiles) (f .0) in
     let c : cnt y (Starts h) ≡ cnt y (startsFrom 0 (P .a)) + (ind (eqb y (endFrom 0 (P .a))) + cnt y (startsFrom (endFrom 0 (P .a) + P .t .size) (P .z ++ T ∷ [])))
     = ap (λ (l : List Tile). cnt y (startsFrom 0 l)) e ∙ starts-append 0 (P .a) (P .t ∷ (P .z ++ T ∷ [])) y in
@@ -62,8 +62,8 @@ pub spare-links : (h : Heap) (x : ℕ) (L : List ℕ) (ws : List Write) → Shap
     → Spares x (sizeOf h x) ws
 spare-links h x L [] s mx sub out k = tt
 spare-links h x L (e ∷ ws) s mx sub out k =
-    let gy : Start (all h) 0 (who e) = start (all h) 0 (who e) (s .fit) (sub (who e) (k .1)) in
-    let gx : Start (h .tiles) 0 x = start (h .tiles) 0 x (fits-tiles h s) mx in (
+    let gy : Start (all h) 0 (who e) = start (all h) 0 (who e) (s .sizes) (sub (who e) (k .1)) in
+    let gx : Start (h .tiles) 0 x = start (h .tiles) 0 x (tiled-tiles h s) mx in (
       ⊎-elim
           (λ z. inl (omega (arith, field-lt e, gy .even, gx .even)))
           (λ z. ⊎-elim
@@ -87,7 +87,7 @@ unlink-spares h j c x s lo mc =
     (link-more ys (xs ++ ys) (backTo ys (lst none64 xs)) (λ y i. omega (arith, up y)) (back-w ys (lst none64 xs))))
   where
     once : cnt x (starts h) ≤ 1
-    once = starts-once (h .tiles) 0 x (fits-tiles h s)
+    once = starts-once (h .tiles) 0 x (tiled-tiles h s)
 
 pub link-spares : (h : Heap) (j c x : ℕ) (xs ys : List ℕ) → Shape h → Loose h x → Loose h c → (x ≡ c → ⊥) → bin h j ≡ xs ++ ys
     → Spares x (sizeOf h x) (writes (linkIn j c xs ys h))
@@ -98,7 +98,7 @@ link-spares h j c x xs ys s lo lc ne e =
     spare-links h x L (writes (linkIn j c xs ys h)) s (omega arith)
     (λ y i. ⊎-elim (λ q. rw q (omega (arith, starts-all h c)))
     (λ q. omega (arith, ind-other y c q, s .own y, starts-all h y, up y, up′ y, cnt-le-all y (h .bins) j)) (eq? y c))
-    (omega (arith, lo, starts-once (h .tiles) 0 x (fits-tiles h s), ind-other x c ne, up x, up′ x, cnt-le-all x (h .bins) j)) (
+    (omega (arith, lo, starts-once (h .tiles) 0 x (tiled-tiles h s), ind-other x c ne, up x, up′ x, cnt-le-all x (h .bins) j)) (
       omega arith,
       cnt-here c (xs ++ ys),
       (
@@ -113,8 +113,8 @@ link-spares h j c x xs ys s lo lc ne e =
 -- a size word is in no block's usable words
 pub spare-size : (h : Heap) (x c z p : ℕ) → Shape h → Loose h x → 1 ≤ cnt c (Starts h) → Spares x (sizeOf h x) (size c z p ∷ [])
 spare-size h x c z p s lo mc =
-    let gy : Start (all h) 0 c = start (all h) 0 c (s .fit) mc in
-    let gx : Start (h .tiles) 0 x = start (h .tiles) 0 x (fits-tiles h s) (omega arith) in (
+    let gy : Start (all h) 0 c = start (all h) 0 c (s .sizes) mc in
+    let gx : Start (h .tiles) 0 x = start (h .tiles) 0 x (tiled-tiles h s) (omega arith) in (
       ⊎-elim (λ q. inl (omega (arith, gy .even, gx .even)))
           (λ q. ⊎-elim (λ r. inl (omega (arith, r, gx .even))) (λ r. inr (omega (arith, gy .even))) q) (clear-of h x c s (omega arith) mc),
       tt,
@@ -126,9 +126,9 @@ pub spare-note : (h : Heap) (x c z : ℕ) → Shape h → Loose h x → (x ≡ c
 spare-note h x c z s lo ne mc mn =
     let n : ℕ = c + sizeOf h c in
     let mx : 1 ≤ cnt x (starts h) = omega arith in
-    let gn : Start (all h) 0 n = start (all h) 0 n (s .fit) mn in
-    let gx : Start (h .tiles) 0 x = start (h .tiles) 0 x (fits-tiles h s) mx in
-    let gc : Start (h .tiles) 0 c = start (h .tiles) 0 c (fits-tiles h s) mc in
+    let gn : Start (all h) 0 n = start (all h) 0 n (s .sizes) mn in
+    let gx : Start (h .tiles) 0 x = start (h .tiles) 0 x (tiled-tiles h s) mx in
+    let gc : Start (h .tiles) 0 c = start (h .tiles) 0 c (tiled-tiles h s) mc in
     let c32 : 32 ≤ sizeOf h c = size-32 h c s mc in
     let x32 : 32 ≤ sizeOf h x = size-32 h x s mx in
     let nx : (n ≡ x + sizeOf h x) → ⊥ = λ q. ⊎-elim

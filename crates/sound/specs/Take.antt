@@ -15,10 +15,10 @@ use Rattle.machine.specs.Heap.{Tile, tile, Heap, bin, withTiles, withRemainder,
 use Rattle.machine.specs.Writes.{Write, apply, Ran, heapOf, writes, _>>=_, size, note}
 use Rattle.machine.specs.Primitives.{unlink, setP, setRemainder}
 use Rattle.machine.specs.Grant.{takeLast, split, carve, step8}
-use Rattle.sound.specs.Relation.{fits, Mem, Loose, Good}
-use Rattle.sound.specs.Tiles.{fits-split, fits-join, end-append, starts-append, none-out, Place, place}
+use Rattle.sound.specs.Relation.{tiled, Mem, Loose, Good}
+use Rattle.sound.specs.Tiles.{tiled-split, tiled-join, end-append, starts-append, none-out, Place, place}
 use Rattle.sound.specs.Lists.{unlink-mem}
-use Rattle.sound.specs.Edits.{size-at, snoc-end, snoc-tiles, size-next, Kept, fits-tiles, note-is, note-kept, cut-is, cut-kept, size-place}
+use Rattle.sound.specs.Edits.{size-at, snoc-end, snoc-tiles, size-next, Kept, tiled-tiles, note-is, note-kept, cut-is, cut-kept, size-place}
 use Rattle.sound.specs.Carve.{Out, Outs, take-out, split-is, mark-ends, split-ends, remainder-good, remainder-mem}
 use Rattle.sound.specs.Moves.{nil, one, any, Moved, listed-not, moved-more, moved-by, unlink-moved, link-moved, set-moved, note-moved, cut-moved}
 use Rattle.sound.specs.Leaves.{Leaves, leaves-of, leaves-weaken, leaves-if, leaves-giving, leaves-next, leaves-then, leaves-widen, gave, Still, Found}
@@ -48,7 +48,7 @@ module _ (h : Heap) (w : List ℕ) (a r : List Tile) (t u : Tile) (O : Out h a t
       let c : ℕ = endFrom 0 a in
       let a₁ : List Tile = a ++ t ∷ [] in
       let e₁ : h .tiles ≡ a₁ ++ u ∷ r = O .tiles ∙ sym (snoc-tiles a (u ∷ r) t) in
-      let f : fits a × fits (t ∷ u ∷ r) = fits-split a (t ∷ u ∷ r) (subst fits (O .tiles) (fits-tiles h (O .shape))) in
+      let f : tiled a × tiled (t ∷ u ∷ r) = tiled-split a (t ∷ u ∷ r) (subst tiled (O .tiles) (tiled-tiles h (O .shape))) in
       let en : next h c ≡ endFrom 0 a₁ = ap (λ (z : ℕ). c + z) (size-at h a (u ∷ r) t (O .tiles) (f .0)) ∙ sym (snoc-end a t) in
       let E = mark-ends h w a r t u 0 O k in
       record {
@@ -64,7 +64,7 @@ module _ (h : Heap) (w : List ℕ) (a r : List Tile) (t u : Tile) (O : Out h a t
       let z : ℕ = t .size - n in
       let A₁ : Tile = tile n 1 0 in
       let B₁ : Tile = tile z 1 0 in
-      let f : fits a × fits (t ∷ u ∷ r) = fits-split a (t ∷ u ∷ r) (subst fits (O .tiles) (fits-tiles h s)) in
+      let f : tiled a × tiled (t ∷ u ∷ r) = tiled-split a (t ∷ u ∷ r) (subst tiled (O .tiles) (tiled-tiles h s)) in
       let sz : sizeOf h c ≡ t .size = size-at h a (u ∷ r) t (O .tiles) (f .0) in
       let ts₁ : List Tile = a ++ A₁ ∷ B₁ ∷ u ∷ r in
       let h₁ : Heap = withTiles ts₁ h in
@@ -96,7 +96,7 @@ module _ (h : Heap) (w : List ℕ) (a r : List Tile) (t u : Tile) (O : Out h a t
       let none : total (c + n) h ≡ 0 = omega (arith, s .own (c + n)) in
       let lo : Loose h₂ (c + n) = omega (arith, none, starts-append 0 a₂ (U ∷ r) (c + n), starts-append 0 a (A₁ ∷ B₁ ∷ []) (c + n), ind-same (c + n)) in
       let here : 1 ≤ cnt (c + n) (starts h₁) = omega (arith, starts-append 0 a (A₁ ∷ B₁ ∷ u ∷ r) (c + n), ind-same (c + n)) in
-      let fa : fits (a ++ A₁ ∷ []) = fits-join a (A₁ ∷ []) (f .0) (n16, n32, omega arith, tt) in
+      let fa : tiled (a ++ A₁ ∷ []) = tiled-join a (A₁ ∷ []) (f .0) (n16, n32, omega arith, tt) in
       let nn : next h₁ (c + n) ≡ x = ap (λ (y : ℕ). c + n + y) (size-next h₁ a (u ∷ r) A₁ B₁ refl fa) ∙ sym ex in
       let other : (y : ℕ) → Loose h y → one (c + n) y ≡ 0 = λ y l. ⊎-elim
       (λ q. absurd (omega (arith, l, ap (λ (o : ℕ). cnt o (starts h)) q))) (λ q. ind-other y (c + n) q) (eq? y (c + n)) in

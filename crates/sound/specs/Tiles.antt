@@ -14,7 +14,7 @@ use Rattle.sizes.specs.Layout.{prevWord, sizeWord}
 use Rattle.machine.specs.Lists.{ind, cnt}
 use Rattle.machine.specs.Count.{eq?, ind-same, ind-other}
 use Rattle.machine.specs.Heap.{Tile, endFrom, startsFrom, upTo, since, hdSize}
-use Rattle.sound.specs.Relation.{fits, tilesAt}
+use Rattle.sound.specs.Relation.{tiled, tilesAt}
 
 pub zero-or : (n : ℕ) → (n ≡ 0) ⊎ (1 ≤ n)
 zero-or zero = inl refl
@@ -27,19 +27,19 @@ lt-or-le s m = go (ltb s m) refl
     go true e = inl (ltb-true s m e)
     go false e = inr (ltb-false s m e)
 
-pub fits-split : (a b : List Tile) → fits (a ++ b) → fits a × fits b
-fits-split [] b k = (tt, k)
-fits-split (t ∷ a) b k = let r : fits a × fits b = fits-split a b (k .3) in ((k .0, k .1, k .2, r .0), r .1)
+pub tiled-split : (a b : List Tile) → tiled (a ++ b) → tiled a × tiled b
+tiled-split [] b k = (tt, k)
+tiled-split (t ∷ a) b k = let r : tiled a × tiled b = tiled-split a b (k .3) in ((k .0, k .1, k .2, r .0), r .1)
 
-pub fits-join : (a b : List Tile) → fits a → fits b → fits (a ++ b)
-fits-join [] b j k = k
-fits-join (t ∷ a) b j k = (j .0, j .1, j .2, fits-join a b (j .3) k)
+pub tiled-join : (a b : List Tile) → tiled a → tiled b → tiled (a ++ b)
+tiled-join [] b j k = k
+tiled-join (t ∷ a) b j k = (j .0, j .1, j .2, tiled-join a b (j .3) k)
 
 pub end-le : (o : ℕ) (ts : List Tile) → o ≤ endFrom o ts
 end-le o [] = omega arith
 end-le o (t ∷ ts) = omega (arith, end-le (o + t .size) ts)
 
-pub end-even : (o : ℕ) (a : List Tile) → o % 16 ≡ 0 → fits a → endFrom o a % 16 ≡ 0
+pub end-even : (o : ℕ) (a : List Tile) → o % 16 ≡ 0 → tiled a → endFrom o a % 16 ≡ 0
 end-even o [] e f = e
 end-even o (t ∷ a) e f = end-even (o + t .size) a (omega arith) (f .3)
 
@@ -56,7 +56,7 @@ pub record Start (ts : List Tile) (o x : ℕ) : Type 0 where
   pub high : x + 32 ≤ endFrom o ts
   pub even : x % 16 ≡ o % 16
 
-pub start : (ts : List Tile) (o x : ℕ) → fits ts → 1 ≤ cnt x (startsFrom o ts) → Start ts o x
+pub start : (ts : List Tile) (o x : ℕ) → tiled ts → 1 ≤ cnt x (startsFrom o ts) → Start ts o x
 start [] o x f m = absurd (not-suc-le-zero m)
 start (t ∷ ts) o x f m =
     ⊎-elim
@@ -67,16 +67,16 @@ start (t ∷ ts) o x f m =
     (eq? x o)
 
 -- no start outside
-pub none-out : (ts : List Tile) (o x : ℕ) → fits ts → (x < o) ⊎ (endFrom o ts ≤ x) → cnt x (startsFrom o ts) ≡ 0
+pub none-out : (ts : List Tile) (o x : ℕ) → tiled ts → (x < o) ⊎ (endFrom o ts ≤ x) → cnt x (startsFrom o ts) ≡ 0
 none-out ts o x f d = ⊎-elim (λ z. z)
     (λ z. let s : Start ts o x = start ts o x f z in absurd (⊎-elim (λ l. omega arith) (λ l. omega arith) d))
     (zero-or (cnt x (startsFrom o ts)))
 
-pub starts-length : (o : ℕ) (ts : List Tile) → fits ts → o + 32 * length (startsFrom o ts) ≤ endFrom o ts
+pub starts-length : (o : ℕ) (ts : List Tile) → tiled ts → o + 32 * length (startsFrom o ts) ≤ endFrom o ts
 starts-length o [] f = omega arith
 starts-length o (t ∷ ts) f = omega (arith, f .1, starts-length (o + t .size) ts (f .3))
 
-pub starts-once : (ts : List Tile) (o x : ℕ) → fits ts → cnt x (startsFrom o ts) ≤ 1
+pub starts-once : (ts : List Tile) (o x : ℕ) → tiled ts → cnt x (startsFrom o ts) ≤ 1
 starts-once [] o x f = omega arith
 starts-once (t ∷ ts) o x f =
     ⊎-elim
@@ -84,7 +84,7 @@ starts-once (t ∷ ts) o x f =
     (λ q. omega (arith, ind-other x o q, starts-once ts (o + t .size) x (f .3)))
     (eq? x o)
 
-pub gap : (ts : List Tile) (o x y : ℕ) → fits ts → 1 ≤ cnt x (startsFrom o ts) → 1 ≤ cnt y (startsFrom o ts)
+pub gap : (ts : List Tile) (o x y : ℕ) → tiled ts → 1 ≤ cnt x (startsFrom o ts) → 1 ≤ cnt y (startsFrom o ts)
     → (x ≡ y → ⊥) → (x + 32 ≤ y) ⊎ (y + 32 ≤ x)
 gap [] o x y f mx my n = absurd (not-suc-le-zero mx)
 gap (t ∷ ts) o x y f mx my n =
@@ -102,13 +102,13 @@ gap (t ∷ ts) o x y f mx my n =
     (eq? x o)
 
 -- ---- the tiles before c and from c on
-pub up-to : (o : ℕ) (a z : List Tile) → fits a → upTo o (endFrom o a) (a ++ z) ≡ a
+pub up-to : (o : ℕ) (a z : List Tile) → tiled a → upTo o (endFrom o a) (a ++ z) ≡ a
 up-to o [] [] f = refl
 up-to o [] (t ∷ z) f = rw (eq-eqb o o refl, upTo)
 up-to o (t ∷ a) z f =
     rw (ne-eqb o (endFrom (o + t .size) a) (λ q. omega (arith, end-le (o + t .size) a)), upTo) (ap (λ (l : List Tile). t ∷ l) (up-to (o + t .size) a z (f .3)))
 
-pub since-at : (o : ℕ) (a z : List Tile) → fits a → since o (endFrom o a) (a ++ z) ≡ z
+pub since-at : (o : ℕ) (a z : List Tile) → tiled a → since o (endFrom o a) (a ++ z) ≡ z
 since-at o [] [] f = refl
 since-at o [] (t ∷ z) f = rw (eq-eqb o o refl, since)
 since-at o (t ∷ a) z f =
@@ -133,7 +133,7 @@ place (t ∷ ts) o c m =
     (eq? c o)
 
 -- ---- another middle of the same length
-pub size-mid : (o x : ℕ) (a m n z : List Tile) → fits m → fits n
+pub size-mid : (o x : ℕ) (a m n z : List Tile) → tiled m → tiled n
     → (x < endFrom o a) ⊎ ((endFrom (endFrom o a) m ≤ x) × (endFrom (endFrom o a) m ≡ endFrom (endFrom o a) n))
     → hdSize (since o x (a ++ (m ++ z))) ≡ hdSize (since o x (a ++ (n ++ z)))
 size-mid o x [] m n z fm fn d = ⊎-elim
@@ -146,10 +146,10 @@ size-mid o x [] m n z fm fn d = ⊎-elim
     miss0 o [] l = refl
     miss0 o (t ∷ z) l = rw (ne-eqb o x (λ q. omega arith), since) (miss0 (o + t .size) z (omega arith))
 
-    miss : (o : ℕ) (m z : List Tile) → fits m → x < o → hdSize (since o x (m ++ z)) ≡ 0
+    miss : (o : ℕ) (m z : List Tile) → tiled m → x < o → hdSize (since o x (m ++ z)) ≡ 0
     miss o m z f l = miss0 o (m ++ z) l
 
-    skip : (o : ℕ) (m z : List Tile) → fits m → endFrom o m ≤ x → hdSize (since o x (m ++ z)) ≡ hdSize (since (endFrom o m) x z)
+    skip : (o : ℕ) (m z : List Tile) → tiled m → endFrom o m ≤ x → hdSize (since o x (m ++ z)) ≡ hdSize (since (endFrom o m) x z)
     skip o [] z f l = refl
     skip o (t ∷ m) z f l = rw (ne-eqb o x (λ q. omega (arith, end-le (o + t .size) m)), since) (skip (o + t .size) m z (f .3) l)
 size-mid o x (t ∷ a) m n z fm fn d = go (λ k. size-mid (o + t .size) x a m n z fm fn k) (eqb o x) refl
@@ -173,7 +173,7 @@ tiles-join w o [] b j k = k
 tiles-join w o (t ∷ a) b j k = (j .0, j .1, tiles-join w (o + t .size) a b (j .2) k)
 
 -- words in the tiles' own range
-pub tiles-cong : (w v : List ℕ) (o : ℕ) (a : List Tile) → o % 16 ≡ 0 → fits a → ((i : ℕ) → o / 8 ≤ i → i < endFrom o a / 8 → getD v i 0 ≡ getD w i 0)
+pub tiles-cong : (w v : List ℕ) (o : ℕ) (a : List Tile) → o % 16 ≡ 0 → tiled a → ((i : ℕ) → o / 8 ≤ i → i < endFrom o a / 8 → getD v i 0 ≡ getD w i 0)
     → tilesAt w o a → tilesAt v o a
 tiles-cong w v o [] e f g k = tt
 tiles-cong w v o (t ∷ a) e f g k =

@@ -3,6 +3,7 @@ use Prim.Native.Nat.{_-_}
 use Rattle.audit_empty_lists.specs.Skips.{Skipped}
 use Rattle.audit_empty_lists.specs.Runs.{skipped-none, skipped-then, skipped-caches}
 use borrow.Author.Tests.{not-false}
+use native.Mathlib.Omega.{arith}
 use borrow.Author.Needs.{needs}
 use Rattle.audit_empty_lists.proofs.skip.Statement.{statement}
 use Rattle.audit_empty_lists.proofs.skip.Tie as tie
@@ -15,9 +16,6 @@ abbrev μ-loop : tie.MeasureT-loop
 
 loop-holds : tie.Need-loop-holds Inv-loop μ-loop
 loop-holds c = skipped-none _ _ (c .before .pre .1)
-
-add-loop : tie.Need-add-loop Inv-loop μ-loop
-add-loop c = search needs
 
 cast-eight-none : tie.Need-cast-eight-none Inv-loop μ-loop
 cast-eight-none c = search needs
@@ -46,7 +44,7 @@ loop-less c = search needs
 loop-again : tie.Need-loop-again Inv-loop μ-loop
 loop-again c =
     let l = c .before .before .before .before .before .loop in
-    skipped-caches _ _ _ (c .before .before .before .before .loop-test .taken) (l .inv) (c .before .before .before .eight-none .ensures (not-false _ (c .before .before .if1 .left)))
+    skipped-caches _ _ (l .j) (omega (arith, c .before .before .before .before .loop-test .taken)) (l .inv) (c .before .before .before .eight-none .ensures (not-false _ (c .before .before .if1 .left)))
     (c .before .eight-zero .ensures (not-false _ (c .if2 .left)))
 
 skip-caches-requires : tie.Need-skip-caches-requires Inv-loop μ-loop
@@ -62,7 +60,6 @@ skip-spec =
     Inv-loop
     μ-loop
     loop-holds
-    add-loop
     cast-eight-none
     add-eight-none
     eight-none-requires

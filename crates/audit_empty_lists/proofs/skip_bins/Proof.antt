@@ -19,9 +19,6 @@ abbrev μ-loop : tie.MeasureT-loop
 loop-holds : tie.Need-loop-holds Inv-loop μ-loop
 loop-holds c = skipped-none _ _ (c .before .pre .2)
 
-add-loop : tie.Need-add-loop Inv-loop μ-loop
-add-loop c = search needs
-
 bin-of-list-requires : tie.Need-bin-of-list-requires Inv-loop μ-loop
 bin-of-list-requires c κs = search needs
 
@@ -41,7 +38,7 @@ loop-again : tie.Need-loop-again Inv-loop μ-loop
 loop-again c =
     let l = c .before .before .before .before .before .loop in
     let p = c .before .before .before .before .before .before .before .pre in
-    skipped-four _ _ _ _ (omega (arith, l .inv .low, p .1)) (c .before .before .before .before .loop-test .taken) (c .before .before .bin-first .ensures ∙ ap binFirst (c .before .before .before .bin-of-list .ensures)) (l .inv)
+    skipped-four _ _ (l .j) _ (omega (arith, l .inv .low, p .1)) (omega (arith, c .before .before .before .before .loop-test .taken)) (c .before .before .bin-first .ensures ∙ ap binFirst (c .before .before .before .bin-of-list .ensures)) (l .inv)
     (c .before .eight-none .ensures (not-false _ (c .if1 .left)))
 
 skip-one-by-one-requires : tie.Need-skip-one-by-one-requires Inv-loop μ-loop
@@ -57,7 +54,6 @@ skip-bins-spec =
     Inv-loop
     μ-loop
     loop-holds
-    add-loop
     bin-of-list-requires
     bin-first-requires
     eight-none-requires

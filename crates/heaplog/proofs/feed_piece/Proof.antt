@@ -1,15 +1,15 @@
--- `heaplog::feed_piece` meets its contract: the loop's invariant: the lent bytes keep their lengths, and the opened arena fits. Assumes nothing.
+-- `heaplog::feed_piece` meets its contract: the loop's invariant: the lent bytes keep their lengths, and the opened arena tiled. Assumes nothing.
 use mathlib.Core.Path.{sym}
 use Prim.Native.Nat.{_≤_, _-_}
 use lib.Seq.{length-take-le}
 use lib.ListN.{length}
 use borrow.Author.Needs.{needs}
-use Rattle.script_run.specs.Run.{Lent}
+use Rattle.script_run.specs.Run.{Buffers}
 use Rattle.heaplog.proofs.feed_piece.Statement.{statement}
 use Rattle.heaplog.proofs.feed_piece.Tie as tie
 
 abbrev Inv-loop : tie.InvT-loop
-Inv-loop log₀ piece arena₀ control₀ out₀ i₀ log arena control out i = (i ≤ length piece) × Lent arena control out × (log .opened ≤ 49152)
+Inv-loop log₀ piece arena₀ control₀ out₀ i₀ log arena control out i = (i ≤ length piece) × Buffers arena control out × (log .opened ≤ 49152)
 
 abbrev μ-loop : tie.MeasureT-loop
 μ-loop log₀ piece arena₀ control₀ out₀ i₀ log arena control out i = length piece - i

@@ -1,12 +1,12 @@
--- `heaplog::main` meets its contract: the loop's invariant: the lent bytes have their lengths, and the opened arena fits; the measure is the number that falls. Assumes nothing.
+-- `heaplog::main` meets its contract: the loop's invariant: the lent bytes have their lengths, and the opened arena tiled; the measure is the number that falls. Assumes nothing.
 use Prim.Native.Nat.{_≤_}
 use borrow.Author.Needs.{needs}
-use Rattle.script_run.specs.Run.{Lent}
+use Rattle.script_run.specs.Run.{Buffers}
 use Rattle.heaplog.proofs.main.Statement.{statement}
 use Rattle.heaplog.proofs.main.Tie as tie
 
 abbrev Inv-loop : tie.InvT-loop
-Inv-loop arena₀ control₀ out₀ log₀ left₀ arena control out log left = Lent arena control out × (log .opened ≤ 49152)
+Inv-loop arena₀ control₀ out₀ log₀ left₀ arena control out log left = Buffers arena control out × (log .opened ≤ 49152)
 
 abbrev μ-loop : tie.MeasureT-loop
 μ-loop arena₀ control₀ out₀ log₀ left₀ arena control out log left = left

@@ -1,4 +1,4 @@
--- `heaplog::turn` meets its contract: what is printed fits the output buffer. Assumes nothing.
+-- `heaplog::turn` meets its contract: what is printed tiled the output buffer. Assumes nothing.
 use mathlib.Core.Path.{sym}
 use lib.Seq.{length-take-le}
 use borrow.Author.Needs.{needs}

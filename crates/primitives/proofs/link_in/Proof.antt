@@ -6,7 +6,7 @@ use denote.Ref.{now}
 use Rattle.primitives.specs.Chunks.{Inside}
 use Rattle.primitives.specs.Ends.{leads-kept}
 use Rattle.primitives.specs.Stacks.{ok-length, loose-inside}
-use Rattle.primitives.specs.Bins.{Ready, gap-ready, loose-fits, link-in-gave}
+use Rattle.primitives.specs.Bins.{Ready, gap-ready, loose-narrow, link-in-gave}
 use borrow.Author.Needs.{needs}
 use Rattle.primitives.proofs.link_in.Statement.{statement}
 use Rattle.primitives.proofs.link_in.Tie as tie
@@ -31,7 +31,7 @@ link-fwd-requires c κs =
       s .pre .1,
       ok-length _ _ _ (s .pre .2 .ok),
       leads-kept _ _ _ (k .set-back .kept .0 ∙ d .set-fwd .kept .0) (ends s .pin),
-      loose-fits _ _ _ (s .pre .2 .ok) _ (s .pre .2 .holds .0),
+      loose-narrow _ _ _ (s .pre .2 .ok) _ (s .pre .2 .holds .0),
     )
 
 link-back-requires : tie.Need-link-back-requires
@@ -43,7 +43,7 @@ link-back-requires c κs =
       s .pre .1,
       f .link-fwd .kept .1 .0 ∙ ok-length _ _ _ (s .pre .2 .ok),
       leads-kept _ _ _ (f .link-fwd .kept .0 ∙ k .set-back .kept .0 ∙ d .set-fwd .kept .0) (ends s .nin),
-      loose-fits _ _ _ (s .pre .2 .ok) _ (s .pre .2 .holds .0),
+      loose-narrow _ _ _ (s .pre .2 .ok) _ (s .pre .2 .holds .0),
     )
 
 same-length : tie.Need-same-length

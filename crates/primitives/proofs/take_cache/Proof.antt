@@ -3,7 +3,7 @@ use mathlib.Core.Path.{refl}
 use Prim.Native.Nat.{_+_}
 use native.Mathlib.Omega.{arith}
 use lib.ListN.{length-set}
-use Rattle.primitives.specs.Stacks.{ok-length, cache-inside, cache-fits, cache-some, take-cache-gave}
+use Rattle.primitives.specs.Stacks.{ok-length, cache-inside, cache-narrow, cache-some, take-cache-gave}
 use borrow.Author.Needs.{needs}
 use Rattle.primitives.proofs.take_cache.Statement.{statement}
 use Rattle.primitives.proofs.take_cache.Tie as tie
@@ -36,7 +36,7 @@ fwd-at-requires c κs =
     (omega arith, omega arith)
 
 word-of-requires : tie.Need-word-of-requires
-word-of-requires c κs = let s = c .before .before .before .before .before in cache-fits _ _ _ (s .pre .1 .ok) (s .args .k) _ (s .pre .0) (s .pre .1 .holds) (c .fwd-at .ensures)
+word-of-requires c κs = let s = c .before .before .before .before .before in cache-narrow _ _ _ (s .pre .1 .ok) (s .args .k) _ (s .pre .0) (s .pre .1 .holds) (c .fwd-at .ensures)
 
 add-r : tie.Need-add-r
 add-r c = search needs

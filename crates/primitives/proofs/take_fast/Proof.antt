@@ -2,7 +2,7 @@
 use mathlib.Core.Path.{refl}
 use Prim.Native.Nat.{_+_}
 use native.Mathlib.Omega.{arith}
-use Rattle.primitives.specs.Stacks.{ok-length, fast-inside, fast-fits, take-fast-gave}
+use Rattle.primitives.specs.Stacks.{ok-length, fast-inside, fast-narrow, take-fast-gave}
 use borrow.Author.Needs.{needs}
 use Rattle.primitives.proofs.take_fast.Statement.{statement}
 use Rattle.primitives.proofs.take_fast.Tie as tie
@@ -26,7 +26,7 @@ fwd-at-requires c κs =
     (omega arith, omega arith)
 
 word-of-requires : tie.Need-word-of-requires
-word-of-requires c κs = let s = c .before .before .before .before in fast-fits _ _ _ (s .pre .1 .ok) (s .args .k) _ (s .pre .0) (s .pre .1 .holds) (c .fwd-at .ensures)
+word-of-requires c κs = let s = c .before .before .before .before in fast-narrow _ _ _ (s .pre .1 .ok) (s .args .k) _ (s .pre .0) (s .pre .1 .holds) (c .fwd-at .ensures)
 
 add-r : tie.Need-add-r
 add-r c = search needs

@@ -24,14 +24,14 @@ link-fwd-requires : tie.Need-link-fwd-requires
 link-fwd-requires c κs =
     let s = c .before .before .before .before .before .before .before .before in
     let e = home-ready _ _ _ _ _ _ _ (s .pre .ok) (s .pre .holds .here) (c .before .before .before .before .fwd-at .ensures) (c .before .before .back-at .ensures) in
-    (bin-below _ _ _ (s .pre .ok) _ _ (s .pre .holds .here), ok-length _ _ _ (s .pre .ok), e .pin, e .nfit)
+    (bin-below _ _ _ (s .pre .ok) _ _ (s .pre .holds .here), ok-length _ _ _ (s .pre .ok), e .pin, e .nnarrow)
 
 link-back-requires : tie.Need-link-back-requires
 link-back-requires c κs =
     let f = c .before .before .before .before .before .before in
     let s = c .before .before .before .before .before .before .before .before .before .before .before .before .before .before .before in
     let e = home-ready _ _ _ _ _ _ _ (s .pre .ok) (s .pre .holds .here) (c .before .before .before .before .before .before .before .before .before .before .before .fwd-at .ensures) (c .before .before .before .before .before .before .before .before .before .back-at .ensures) in
-    (bin-below _ _ _ (s .pre .ok) _ _ (s .pre .holds .here), f .link-fwd .kept .1 .0 ∙ ok-length _ _ _ (s .pre .ok), leads-kept _ _ _ (f .link-fwd .kept .0) (e .nin), e .pfit)
+    (bin-below _ _ _ (s .pre .ok) _ _ (s .pre .holds .here), f .link-fwd .kept .1 .0 ∙ ok-length _ _ _ (s .pre .ok), leads-kept _ _ _ (f .link-fwd .kept .0) (e .nin), e .pnarrow)
 
 same-length : tie.Need-same-length
 same-length c = search needs

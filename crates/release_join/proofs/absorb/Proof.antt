@@ -2,7 +2,7 @@
 -- as c's size. Assumes nothing.
 use native.Mathlib.Omega.{arith}
 use borrow.Author.Needs.{needs}
-use Rattle.release_join.specs.Reads.{arena-fits}
+use Rattle.release_join.specs.Reads.{arena-words-within}
 use Rattle.release_join.specs.Parts.{taking-binned, taking-inside, taking-small, absorb-gave, absorb-size}
 use Rattle.release_join.proofs.absorb.Statement.{statement}
 use Rattle.release_join.proofs.absorb.Tie as tie
@@ -15,7 +15,7 @@ unlink-wherever-requires c κs =
 set-size-requires : tie.Need-set-size-requires
 set-size-requires c κs =
     let s = c .before .before .before .before .before .before .before .before .before .before in
-    let k = taking-inside _ _ _ _ _ _ _ (s .pre .ok) (s .pre .holds) _ (arena-fits (s .args .a .now)) in
+    let k = taking-inside _ _ _ _ _ _ _ (s .pre .ok) (s .pre .holds) _ (arena-words-within (s .args .a .now)) in
     omega (arith, c .before .before .before .before .before .unlink-wherever .kept .0, taking-small _ _ _ _ _ _ _ (s .pre .ok) (s .pre .holds))
 
 same-length : tie.Need-same-length

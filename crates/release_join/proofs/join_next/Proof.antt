@@ -7,7 +7,7 @@ use Prim.Native.Nat.{_+_}
 use mathlib.Core.Path.{sym}
 use lib.ListN.{length}
 use Rattle.le.specs.Arena.{arenaWords}
-use Rattle.release_join.specs.Reads.{arena-fits, size-inside}
+use Rattle.release_join.specs.Reads.{arena-words-within, size-inside}
 use Rattle.primitives.specs.Chunks.{Inside}
 use Rattle.release_join.specs.Parts.{Nearby, nearby, next-top-gave, next-alone-gave, next-taking, next-taken-gave}
 use Rattle.release_join.proofs.join_next.Statement.{statement}
@@ -15,7 +15,7 @@ use Rattle.release_join.proofs.join_next.Tie as tie
 
 -- c, its size, and what stands after it
 near : (s : tie.Start) → Nearby (length (s .args .a .now)) (arenaWords (s .args .a .now)) (s .args .r .now) (s .args .c .0) (s .args .z)
-near s = nearby _ _ _ _ _ (s .pre .0 .ok) (s .pre .0 .holds) (s .pre .1) _ (arena-fits (s .args .a .now))
+near s = nearby _ _ _ _ _ (s .pre .0 .ok) (s .pre .0 .holds) (s .pre .1) _ (arena-words-within (s .args .a .now))
 
 -- the chunk behind the next one
 last : (e : tie.After-size-at)

@@ -4,14 +4,14 @@ use borrow.Author.Needs.{needs}
 use mathlib.Core.Path.{refl}
 use lib.ListN.{length}
 use Rattle.le.specs.Arena.{arenaWords}
-use Rattle.release_join.specs.Reads.{arena-fits}
+use Rattle.release_join.specs.Reads.{arena-words-within}
 use Rattle.release_join.specs.Parts.{Nearby, nearby, down-top-gave, down-has, down-bin-gave}
 use Rattle.release_join.proofs.put_down.Statement.{statement}
 use Rattle.release_join.proofs.put_down.Tie as tie
 
 -- c, its size, and what stands after it
 near : (s : tie.Start) → Nearby (length (s .args .a .now)) (arenaWords (s .args .a .now)) (s .args .r .now) (s .args .c .0) (s .args .z)
-near s = nearby _ _ _ _ _ (s .pre .0 .ok) (s .pre .0 .holds) (s .pre .1) _ (arena-fits (s .args .a .now))
+near s = nearby _ _ _ _ _ (s .pre .0 .ok) (s .pre .0 .holds) (s .pre .1) _ (arena-words-within (s .args .a .now))
 
 add-if1 : tie.Need-add-if1
 add-if1 c = let k = near (c .before .before .before) in omega arith

@@ -1,7 +1,7 @@
 -- `script_run::run_line` meets its contract: a line in its place is run; any other prints its number. Assumes nothing.
 use mathlib.Core.Path.{sym, _∙_}
 use borrow.Author.Needs.{needs}
-use Rattle.script_run.proofs.Steps.{placed, questioned, opened-fits}
+use Rattle.script_run.proofs.Steps.{placed, questioned, opened-within}
 use Rattle.script_run.proofs.run_line.Statement.{statement}
 use Rattle.script_run.proofs.run_line.Tie as tie
 
@@ -19,7 +19,7 @@ length-of-requires c κs = search needs
 
 run-placed-requires : tie.Need-run-placed-requires
 run-placed-requires c κs =
-    let fits = opened-fits (c .before .before .before .before .before .before .before .before .count .result) (c .before .before .before .before .before .before .before .before .before .before .before .before .args .log .opened) (c .before .before .before .before .before .before .line-read .result) (sym (c .before .before .before .before .before .in-place .ensures) ∙ c .before .before .before .before .if1 .taken) (c .before .before .before .before .before .before .before .before .before .before .before .before .pre .1) in
+    let fits = opened-within (c .before .before .before .before .before .before .before .before .count .result) (c .before .before .before .before .before .before .before .before .before .before .before .before .args .log .opened) (c .before .before .before .before .before .before .line-read .result) (sym (c .before .before .before .before .before .in-place .ensures) ∙ c .before .before .before .before .if1 .taken) (c .before .before .before .before .before .before .before .before .before .before .before .before .pre .1) in
     (c .before .before .before .before .before .before .before .before .before .before .before .before .pre .0, rw (c .before .before .before .length-of .ensures) fits)
 
 same-length : tie.Need-same-length

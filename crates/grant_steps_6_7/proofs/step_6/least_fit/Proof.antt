@@ -7,7 +7,7 @@ use Rattle.primitives.specs.Follow.{Ok}
 use Rattle.primitives.specs.Chunks.{in-bytes}
 use Rattle.primitives.specs.Stacks.{ok-length}
 use Rattle.grant_steps_6_7.specs.Finds.{Back, left}
-use Rattle.grant_steps_6_7.specs.Following.{back-start, back-chunk, back-fits, back-next, back-less, back-end}
+use Rattle.grant_steps_6_7.specs.Following.{back-start, back-chunk, back-found, back-next, back-less, back-end}
 use Rattle.grant_steps_6_7.proofs.step_6.least_fit.Statement.{statement}
 use Rattle.grant_steps_6_7.proofs.step_6.least_fit.Tie as tie
 
@@ -45,7 +45,7 @@ returns : tie.Need-returns Inv-loop μ-loop
 returns c =
     let l = c .before .before .before .before in
     let s = l .before .before .before .before .before .before in
-    λ h o. back-fits h _ _ (s .args .j) (s .args .b) o _ (l .loop .inv h o) (c .before .before .if1 .taken) (omega (arith, c .before .size-at .ensures, c .if2 .taken))
+    λ h o. back-found h _ _ (s .args .j) (s .args .b) o _ (l .loop .inv h o) (c .before .before .if1 .taken) (omega (arith, c .before .size-at .ensures, c .if2 .taken))
 
 back-at-requires : tie.Need-back-at-requires Inv-loop μ-loop
 back-at-requires c κs =
