@@ -6,6 +6,7 @@ ghost use lib.ListN.{length};
 ghost use Rattle.sizes.specs.Limits.{none32};
 ghost use Rattle.audit_empty_lists.specs.Skips.{fourAnd, fourOr, AllFrom, Skipped};
 use sizes::ALL_LISTS;
+use sizes::BEFORE_BINS;
 use sizes::BINS_FROM;
 use sizes::CACHE_COUNTS;
 use sizes::CACHE_HEADS;
@@ -16,10 +17,10 @@ use sizes::bin_first;
 use sizes::bin_last;
 use sizes::bin_of_list;
 
-// The last list that has three more behind it, and the last cache list that has seven more: ALL_LISTS less 4, FAST_FROM less 8.
-const FOUR_LEFT: u32 = 196;
+// From here on fewer than four lists are left, and fewer than eight cache lists: ALL_LISTS less 3, FAST_FROM less 7.
+const LAST_BINS: u32 = 197;
 
-const EIGHT_LEFT: u32 = 56;
+const LAST_CACHES: u32 = 57;
 
 // The bits that are set in all of four words, and those that are set in any of them.
 fn four_and(r: &[u32], f: usize) -> u32
@@ -58,8 +59,8 @@ fn skip_bins(r: &[u32], i: u32) -> u32
     ensures { λ j. ⌜ Skipped (now (r .entry)) i j ⌝ }
 {
     let mut j = i;
-    while j <= FOUR_LEFT {
-        if !eight_none(r, bin_first(bin_of_list(j))) {
+    while j < LAST_BINS {
+        if !eight_none(r, bin_first((j - BEFORE_BINS) as usize)) {
             break;
         }
         j += 4;
@@ -127,7 +128,7 @@ pub fn skip(r: &[u32], i: u32) -> u32
     ensures { λ j. ⌜ Skipped (now (r .entry)) i j ⌝ }
 {
     let mut j = i;
-    while j <= EIGHT_LEFT {
+    while j < LAST_CACHES {
         if !eight_none(r, CACHE_HEADS + (j as usize)) {
             break;
         }

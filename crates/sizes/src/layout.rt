@@ -33,7 +33,7 @@ pub fn bin_last(j: usize) -> usize
 }
 
 // The list before bin 1 in the audit's order.
-const BEFORE_BINS: u32 = 73;
+pub const BEFORE_BINS: u32 = 73;
 
 // The bin that is the audit's list number i.
 pub fn bin_of_list(i: u32) -> usize

@@ -7,6 +7,7 @@ mod limits; // limits.rt: document 01's limits
 
 pub use bins::bin_of;
 pub use bins::least_of_bin;
+pub use layout::BEFORE_BINS;
 pub use layout::CACHE_COUNTS;
 pub use layout::CACHE_HEADS;
 pub use layout::FAST_HEADS;

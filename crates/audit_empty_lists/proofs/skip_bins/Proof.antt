@@ -1,12 +1,10 @@
 -- `audit_empty_lists::skip_bins` meets its contract: four bins at a time, and then one by one. Assumes nothing.
-use mathlib.Core.Path.{ap, _∙_}
 use Prim.Native.Nat.{_-_}
 use native.Mathlib.Omega.{arith}
 use Rattle.audit_empty_lists.specs.Skips.{Skipped}
 use Rattle.audit_empty_lists.specs.Runs.{skipped-none, skipped-then, skipped-four}
 use borrow.Author.Tests.{not-false}
 use borrow.Author.Needs.{needs}
-use Rattle.sizes.specs.Layout.{binFirst}
 use Rattle.audit_empty_lists.proofs.skip_bins.Statement.{statement}
 use Rattle.audit_empty_lists.proofs.skip_bins.Tie as tie
 
@@ -19,8 +17,11 @@ abbrev μ-loop : tie.MeasureT-loop
 loop-holds : tie.Need-loop-holds Inv-loop μ-loop
 loop-holds c = skipped-none _ _ (c .before .pre .2)
 
-bin-of-list-requires : tie.Need-bin-of-list-requires Inv-loop μ-loop
-bin-of-list-requires c κs = search needs
+sub-bin-first : tie.Need-sub-bin-first Inv-loop μ-loop
+sub-bin-first c = search needs
+
+cast-bin-first : tie.Need-cast-bin-first Inv-loop μ-loop
+cast-bin-first c = search needs
 
 bin-first-requires : tie.Need-bin-first-requires Inv-loop μ-loop
 bin-first-requires c κs = search needs
@@ -36,9 +37,9 @@ loop-less c = search needs
 
 loop-again : tie.Need-loop-again Inv-loop μ-loop
 loop-again c =
-    let l = c .before .before .before .before .before .loop in
-    let p = c .before .before .before .before .before .before .before .pre in
-    skipped-four _ _ (l .j) _ (omega (arith, l .inv .low, p .1)) (omega (arith, c .before .before .before .before .loop-test .taken)) (c .before .before .bin-first .ensures ∙ ap binFirst (c .before .before .before .bin-of-list .ensures)) (l .inv)
+    let l = c .before .before .before .before .loop in
+    let p = c .before .before .before .before .before .before .pre in
+    skipped-four _ _ (l .j) _ (omega (arith, l .inv .low, p .1)) (omega (arith, c .before .before .before .loop-test .taken)) (c .before .before .bin-first .ensures) (l .inv)
     (c .before .eight-none .ensures (not-false _ (c .if1 .left)))
 
 skip-one-by-one-requires : tie.Need-skip-one-by-one-requires Inv-loop μ-loop
@@ -54,7 +55,8 @@ skip-bins-spec =
     Inv-loop
     μ-loop
     loop-holds
-    bin-of-list-requires
+    sub-bin-first
+    cast-bin-first
     bin-first-requires
     eight-none-requires
     add-j
