@@ -181,10 +181,13 @@ module _ (h : Heap) (w r : List ℕ) (a : 8 * length w ≤ 262144) (s : Spelled 
       last : (i : ℕ) (l : List ℕ) → ((x : ℕ) → 1 ≤ cnt x l → 1 ≤ cnt x (starts h)) → up (getD r i 0) ≡ lst none64 l → getD r i 0 ≡ lst none32 l
       last i l m e = let u = up-lst l (λ x k. small x (m x k)) in up-one (getD r i 0) (lst none32 l) (b i) (u .1) (e ∙ sym (u .0))
 
+pub audit-good : (w r : List ℕ) → Arena w → auditOf w r ≡ A.Sound → Good (view w r)
+audit-good w r a e = spelled-good (view w r) w r (a .small) (audit-spelled w r e)
+
 pub audit-sound : (w r : List ℕ) → Arena w → length r ≡ 393 → ((i : ℕ) → getD r i 0 < 2 ^ 32) → auditOf w r ≡ A.Sound → Sound (view w r) w r
 audit-sound w r a n b e =
     let s = audit-spelled w r e in
-    record { good = spelled-good (view w r) w r (a .small) s; mem = spelled-mem (view w r) w r (a .small) s; rec = spelled-record (view w r) w r (a .small) s n b }
+    record { good = audit-good w r a e; mem = spelled-mem (view w r) w r (a .small) s; rec = spelled-record (view w r) w r (a .small) s n b }
 
 -- ---- from the relation to the tests
 module _ (h : Heap) (w r : List ℕ) (s : Sound h w r) where

@@ -6,26 +6,29 @@ use mathlib.Core.Bool.{Bool, true, false}
 use mathlib.Core.Logic.{inl, inr, ⊎-elim}
 use Prim.Native.Nat.{ℕ, _+_, _-_, _≤_, _<_}
 use native.Mathlib.Omega.{arith}
+use lib.Dec.{eqb}
 use lib.ListN.{length}
 use borrow.Author.Tests.{le-ltb, lt-ltb}
 use Rattle.le.specs.Arena.{arenaWords}
 use Rattle.le.specs.ArenaLaws.{length-arenaWords}
-use Rattle.sizes.specs.Limits.{mostRequest}
+use Rattle.sizes.specs.Limits.{mostRequest, recordBytes, unsorted}
 use Rattle.sizes.specs.Sizes.{need, usable}
 use Rattle.sizes.specs.SizesLaws.{NeedBounds, need-bounds}
 use Rattle.machine.specs.Lists.{cnt}
 use Rattle.machine.specs.Count.{ind-same}
-use Rattle.machine.specs.Heap.{Heap, stack, opened, topOf, starts, sizeOf, live?}
+use Rattle.machine.specs.Heap.{Heap, stack, bin, opened, topOf, starts, sizeOf, live?}
 use Rattle.machine.specs.Writes.{size, Ran, does, heapOf, writes}
 use Rattle.machine.specs.Release.{release, settle}
 use Rattle.machine.specs.Grant.{grant}
-use Rattle.machine.specs.Calls.{After, after, shape?, wordsOf, heapIn, openCall, grantCall, releaseCall, settleCall, auditCall}
+use Rattle.machine.specs.Audit.{auditOf}
+use Rattle.machine.specs.Calls.{After, after, shape?, arenaAllowed?, wordsOf, heapIn, openCall, grantCall, releaseCall, settleCall, auditCall}
 use Rattle.machine.specs.declared.{Got.Got, Got.the-variants.Nothing}
 use Rattle.machine.specs.declared.Refusal.{Refusal}
 use Rattle.machine.specs.declared.Refusal.the-variants as R
 use Rattle.machine.specs.declared.Answer.{Answer}
 use Rattle.machine.specs.declared.Answer.the-variants.{Done, Granted, Refused}
 use Rattle.machine.specs.declared.Audited.{Audited}
+use Rattle.machine.specs.declared.Audited.the-variants as A
 use Rattle.sound.specs.Relation.{Loose, Good, Sound}
 use Rattle.sound.specs.Tiles.{start}
 use Rattle.sound.specs.Frames.{Starts, starts-all, apply-length}
@@ -34,8 +37,11 @@ use Rattle.sound.specs.Spares.{clear-of}
 use Rattle.sound.specs.Moves.{answerOf}
 use Rattle.sound.specs.Ends.{Ends}
 use Rattle.sound.specs.Opened.{opened-ends}
+use Rattle.sound.specs.Release.{both-true}
+use Rattle.sound.specs.Unsorted.{unsorted-few}
 use Rattle.sound.specs.Live.{But, Gives, live-loose, loose-live, release-goes, settle-stays, grant-gives, grant-refused}
-use Rattle.calls.specs.Ways.{grant-shape, grant-request, grant-unsound, release-shape, release-unsound, settle-shape, settle-unsound}
+use Rattle.audit.specs.Exact.{arena-words, audit-good}
+use Rattle.calls.specs.Ways.{allowed-true, grant-shape, grant-request, grant-unsound, release-shape, release-unsound, settle-shape, settle-unsound}
 use Rattle.calls.specs.Written.{top-most}
 use Rattle.calls.specs.Remainder.{Fine, grant-fine, release-fine, settle-fine}
 use Rattle.calls.specs.Results.{Lent, SoundIn, UnsoundIn, answered, arenaLeft, recordLeft, heapLeft, LiveMem, Exactly, StaysSound, CachesKept, LiveKept, GrantedNew}
@@ -80,6 +86,17 @@ not-live h c n = go (live? h c) refl
     go : (t : Bool) → live? h c ≡ t → t ≡ false
     go true e = absurd (n (live-loose h c e))
     go false e = refl
+
+-- ---- whatever arena and record the audit finds sound, unsorted has at most 4,096 chunks
+pub sound-unsorted-few : (a r : List ℕ) → auditCall a r ≡ A.Sound → length (bin (heapIn a r) unsorted) ≤ 4096
+unfolding auditCall
+sound-unsorted-few a r e = unsorted-few (heapIn a r) (go (shape? a r) refl e)
+  where
+    go : (t : Bool) → shape? a r ≡ t → _≡_ {A = Audited} (elim t [ true ↦ auditOf (arenaWords a) (wordsOf r) | false ↦ A.Shape ]) A.Sound → Good (heapIn a r)
+    go true s e =
+        let l = allowed-true (length a) (both-true (eqb (length r) recordBytes) (arenaAllowed? (length a)) s .1) in
+        audit-good (arenaWords a) (wordsOf r) (arena-words a (record { even = l .0; least = l .1; small = l .2 })) e
+    go false s e = clash (cc)
 
 -- a new block of a sound heap g
 new-block : (h g : Heap) (n c : ℕ) → Good g → Loose g c → need n ≤ sizeOf g c → (Loose h c → ⊥) → GrantedNew h g (g .len) n (c + 16) (usable (sizeOf g c))

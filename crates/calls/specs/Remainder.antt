@@ -7,7 +7,7 @@ use Prim.Native.Nat.{ℕ, zero, suc, _+_, _-_, _%_, _≤_}
 use native.Mathlib.Omega.{arith}
 use lib.Dec.{eqb, ltb, leb}
 use lib.ListN.{length}
-use Rattle.sizes.specs.Limits.{none64, none32, mostCached, cacheRoom, mostFast, large, unsorted, leastChunk, lastBin, mostBinned}
+use Rattle.sizes.specs.Limits.{none64, none32, mostCached, cacheRoom, mostFast, large, unsorted, leastChunk, lastBin}
 use Rattle.sizes.specs.Sizes.{cacheOf, fastOf, binOf}
 use Rattle.machine.specs.Lists.{both, hd, lst, some?, cnt}
 use Rattle.machine.specs.Heap.{Heap, cache, fastAt, fast, bin, anyFast?, topSize, sizeOf, next}
@@ -165,24 +165,23 @@ module _ (b : ℕ) (b16 : b % 16 ≡ 0) (b32 : 32 ≤ b) (most : b ≤ 262160) w
   swept-low true h l = l
   swept-low false h l = l
 
-  sweep-low : (n left : ℕ) (got : Bool) (h : Heap) (w : List ℕ) → Fine h → Mem h w → Low (sweep n left b got h)
+  sweep-low : (n : ℕ) (got : Bool) (h : Heap) (w : List ℕ) → Fine h → Mem h w → Low (sweep n b got h)
   unfolding sweep
-  sweep-low zero left got h w F m = swept-low got h (F .low)
-  sweep-low (suc n) zero got h w F m = swept-low got h (F .low)
-  sweep-low (suc n) (suc left) got h w F m =
+  sweep-low zero got h w F m = swept-low got h (F .low)
+  sweep-low (suc n) got h w F m =
       let E = turn-ends b b16 b32 h w (F .good) m in
       let l = turn-low h F in
       let F′ : Fine (heapOf (turn b h)) = record { good = E .now; low = l } in
-      low-turn (turn b h) (λ g. sweep n (suc left) b true g) (λ g. sweep n left b got g) (λ g. swept b got g) l
-      (sweep-low n (suc left) true (heapOf (turn b h)) (apply (writes (turn b h)) w) F′ (E .mem))
-      (sweep-low n left got (heapOf (turn b h)) (apply (writes (turn b h)) w) F′ (E .mem)) (swept-low got (heapOf (turn b h)) l)
+      low-turn (turn b h) (λ g. sweep n b true g) (λ g. sweep n b got g) (λ g. swept b got g) l
+      (sweep-low n true (heapOf (turn b h)) (apply (writes (turn b h)) w) F′ (E .mem))
+      (sweep-low n got (heapOf (turn b h)) (apply (writes (turn b h)) w) F′ (E .mem)) (swept-low got (heapOf (turn b h)) l)
 
   step5-fine : (h : Heap) (w : List ℕ) → Fine h → Mem h w → Ends (step5 b h) w Fine
   unfolding step5
   step5-fine h w F m = fine-of (step5-ends b b16 b32 h w (F .good) m) low
     where
       low : Low (step5 b h)
-      low = sweep-low (length (bin h unsorted)) mostBinned false h w F m
+      low = sweep-low (length (bin h unsorted)) false h w F m
 
   carve-low : (c : ℕ) (new? : Bool) (h : Heap) → h .remainder ≤ none32 → c + b ≤ none32 → Low (carve c b new? h)
   unfolding carve split

@@ -116,24 +116,15 @@ turn-fewer b h g = go (some? (bin h unsorted)) refl
     go true e = turnAt-fewer b h (lst none64 (bin h unsorted)) (g .shape) (some-has (bin h unsorted) e)
     go false e = none (bin h unsorted) e
 
--- ---- the sweep, by its tests and a turn's answer
-module _ (b left : ℕ) (got : Bool) (h : Heap) where
-  sweep-stop : (n : ℕ) → left ≡ 0 → sweep n left b got h ≡ swept b got h
+-- ---- the sweep, by how many are unsorted and a turn's answer
+module _ (b : ℕ) (got : Bool) (h : Heap) where
+  sweep-none : (n : ℕ) → n ≡ 0 → sweep n b got h ≡ swept b got h
   unfolding sweep
-  sweep-stop n e = ap (λ (l : ℕ). sweep n l b got h) e ∙ go n
-    where
-      go : (n : ℕ) → sweep n 0 b got h ≡ swept b got h
-      go zero = refl
-      go (suc n) = refl
+  sweep-none n e = ap (λ (n : ℕ). sweep n b got h) e
 
-  sweep-none : (n : ℕ) → n ≡ 0 → sweep n left b got h ≡ swept b got h
+  sweep-turn : (n m : ℕ) → n ≡ suc m → sweep n b got h ≡ afterTurn (turn b h) (λ g. sweep m b true g) (λ g. sweep m b got g) (λ g. swept b got g)
   unfolding sweep
-  sweep-none n e = ap (λ (n : ℕ). sweep n left b got h) e
-
-  sweep-turn : (n m k : ℕ) → n ≡ suc m → left ≡ suc k
-      → sweep n left b got h ≡ afterTurn (turn b h) (λ g. sweep m left b true g) (λ g. sweep m k b got g) (λ g. swept b got g)
-  unfolding sweep
-  sweep-turn n m k e f = ap (λ (n : ℕ). sweep n left b got h) e ∙ rw f
+  sweep-turn n m e = ap (λ (n : ℕ). sweep n b got h) e
 
 after-granted : (s : Ran Turn) (kept sorted over : Heap → Ran Got) (c : ℕ) → answer s ≡ T.Granted c → afterTurn s kept sorted over ≡ giving (At c) s
 after-granted (ran g ws t) kept sorted over c e = ap (λ (t : Turn). afterTurn (ran g ws t) kept sorted over) e
@@ -159,14 +150,23 @@ pub record Reach (b : ℕ) (got : Bool) (f : Heap → Ran Got) (h₀ : Heap) (w�
   pub bytes : w ≡ apply done w₀
   pub same : step5 b h₀ ≡ more done (f heap)
 
--- all that is left
-abbrev pub sweepOn : ℕ → ℕ → Bool → Heap → Ran Got
-sweepOn left b got h = sweep (length (bin h unsorted)) left b got h
+-- all that is left: the sweep while it is going, and then its end alone
+abbrev pub sweepOn : ℕ → Bool → Bool → Heap → Ran Got
+sweepOn b true got h = sweep (length (bin h unsorted)) b got h
+sweepOn b false got h = swept b got h
 
-abbrev pub Sweeping : ℕ → ℕ → Bool → List ℕ → List ℕ → List ℕ → List ℕ → Type 0
-Sweeping b left got w₀ r₀ w r = (h₀ : Heap) → Ok h₀ w₀ r₀ → Good h₀ → Reach b got (sweepOn left b got) h₀ w₀ w r
+abbrev pub Sweeping : ℕ → Bool → Bool → List ℕ → List ℕ → List ℕ → List ℕ → Type 0
+Sweeping b going got w₀ r₀ w r = (h₀ : Heap) → Ok h₀ w₀ r₀ → Good h₀ → Reach b got (sweepOn b going got) h₀ w₀ w r
 
-pub reach-start : (b : ℕ) (h : Heap) (w r : List ℕ) → Ok h w r → Good h → Reach b false (sweepOn 10000 b false) h w w r
+-- how many turns are left at most, as words and record have it: one for each unsorted chunk, and one that finds none
+abbrev pub turnsLeft : Bool → List ℕ → List ℕ → ℕ
+turnsLeft true w r = suc (ahead w (up (getD r (binFirst unsorted) 0)))
+turnsLeft false w r = 0
+
+pub turn-left : (going : Bool) (w r : List ℕ) → going ≡ true → 0 < turnsLeft going w r
+turn-left going w r n = rw n (omega arith)
+
+pub reach-start : (b : ℕ) (h : Heap) (w r : List ℕ) → Ok h w r → Good h → Reach b false (sweepOn b true false) h w w r
 unfolding step5
 reach-start b h w r o g = record {
   heap = h;
@@ -175,7 +175,7 @@ reach-start b h w r o g = record {
   good = g;
   full = λ e. absurd (let z : _≡_ {A = ℕ} 0 1 = cc in omega arith);
   bytes = refl;
-  same = more-nil (sweepOn 10000 b false h);
+  same = more-nil (sweepOn b true false h);
 }
 
 -- a step that ends it
@@ -183,16 +183,8 @@ pub reach-does : {b : ℕ} {got : Bool} {f : Heap → Ran Got} {h₀ : Heap} {w�
     → Gave Got (step5 b h₀) g w₀ v q
 reach-does {f = f} {g = g} R d = gave-by (R .same) (gave-more (R .done) (f (R .heap)) g (R .bytes) (d .does (R .heap) (R .ok) (R .full)))
 
-pub reach-stop : {b left : ℕ} {got : Bool} {h₀ : Heap} {w₀ w r : List ℕ} → left ≡ 0 → Reach b got (sweepOn left b got) h₀ w₀ w r → Reach b got (swept b got) h₀ w₀ w r
-reach-stop {b} {left} {got} e R = record {
-  heap = R .heap;
-  done = R .done;
-  ok = R .ok;
-  good = R .good;
-  full = R .full;
-  bytes = R .bytes;
-  same = R .same ∙ ap (more (R .done)) (sweep-stop b left got (R .heap) (length (bin (R .heap) unsorted)) e);
-}
+pub reach-over : {b : ℕ} {going got : Bool} {h₀ : Heap} {w₀ w r : List ℕ} → going ≡ false → Reach b got (sweepOn b going got) h₀ w₀ w r → Reach b got (swept b got) h₀ w₀ w r
+reach-over {b} {going} {got} {h₀} {w₀} {w} {r} e R = subst (λ (o : Bool). Reach b got (sweepOn b o got) h₀ w₀ w r) e R
 
 suc-of : (n : ℕ) → (n ≡ 0 → ⊥) → n ≡ suc (n - 1)
 suc-of zero k = absurd (k refl)
@@ -218,20 +210,8 @@ module _ (b : ℕ) (b16 : b % 16 ≡ 0) (b32 : 32 ≤ b) (h : Heap) (w r v q : L
   left-ok : Good N → Ok N v q
   left-ok k = gave-ok (turn b h) t (k .shape) (turn-leaves b b16 b32 h w g (o .mem) .mem) turned
 
-  -- fewer are unsorted, as words and record have them
-  pub fewer-ahead : (t ≡ T.Cached) ⊎ (t ≡ T.Binned) → ahead v (up (getD q (binFirst unsorted) 0)) < ahead w (up (getD r (binFirst unsorted) 0))
-  fewer-ahead d = ⊎-elim
-      (λ (e : t ≡ T.Cached).
-      less (subst (λ (t : Turn). Turned b h t N) e left-so .0) (subst (λ (t : Turn). Fewer t (length (bin h unsorted)) N) e left-fewer))
-      (λ (e : t ≡ T.Binned).
-      less (subst (λ (t : Turn). Turned b h t N) e left-so .0) (subst (λ (t : Turn). Fewer t (length (bin h unsorted)) N) e left-fewer))
-      d
-    where
-      less : Good N → length (bin h unsorted) ≡ suc (length (bin N unsorted)) → ahead v (up (getD q (binFirst unsorted) 0)) < ahead w (up (getD r (binFirst unsorted) 0))
-      less k e = omega (arith, ahead-first h w r unsorted o (omega arith) (omega arith), ahead-first N v q unsorted (left-ok k) (omega arith) (omega arith))
-
 -- ---- one turn on the way, by its answer
-module _ (b : ℕ) (b16 : b % 16 ≡ 0) (b32 : 32 ≤ b) (left : ℕ) (got : Bool) (h₀ : Heap) (w₀ w r v q : List ℕ) (n : left ≡ 0 → ⊥) (R : Reach b got (sweepOn left b got) h₀ w₀ w r)
+module _ (b : ℕ) (b16 : b % 16 ≡ 0) (b32 : 32 ≤ b) (going got : Bool) (h₀ : Heap) (w₀ w r v q : List ℕ) (n : going ≡ true) (R : Reach b got (sweepOn b going got) h₀ w₀ w r)
     (t : Turn) (D : Does Turn Good (turn b) w r t v q) where
   abbrev H : Heap
   H = R .heap
@@ -251,21 +231,35 @@ module _ (b : ℕ) (b16 : b % 16 ≡ 0) (b32 : 32 ≤ b) (left : ℕ) (got : Boo
   now-ok : Good G → Ok G v q
   now-ok k = left-ok b b16 b32 H w r v q (R .ok) (R .good) t D k
 
+  -- a turn fewer is left
+  pub way-fewer : (t ≡ T.Cached) ⊎ (t ≡ T.Binned) → turnsLeft going v q < turnsLeft going w r
+  way-fewer d = rw n (⊎-elim (λ (e : t ≡ T.Cached). less (now-so T.Cached e .0) (now-fewer T.Cached e)) (λ (e : t ≡ T.Binned). less (now-so T.Binned e .0) (now-fewer T.Binned e)) d)
+    where
+      less : Good G → L ≡ suc (length (bin G unsorted)) → turnsLeft true v q < turnsLeft true w r
+      less k e = omega (arith, ahead-first H w r unsorted (R .ok) (omega arith) (omega arith), ahead-first G v q unsorted (now-ok k) (omega arith) (omega arith))
+
   now-gave : Gave Turn (turn b H) t w v q
   now-gave = D .does H (R .ok) (R .good)
 
   now-bytes : v ≡ apply (R .done ++ writes (turn b H)) w₀
   now-bytes = now-gave .bytes ∙ ap (apply (writes (turn b H))) (R .bytes) ∙ sym (apply-append (R .done) (writes (turn b H)) w₀)
 
+  goes : (got : Bool) (h : Heap) → sweepOn b going got h ≡ sweep (length (bin h unsorted)) b got h
+  goes got h = ap (λ (o : Bool). sweepOn b o got h) n
+
+  -- the turn's writes are done too
+  on : (s : Ran Got) → sweepOn b going got H ≡ more (writes (turn b H)) s → step5 b h₀ ≡ more (R .done ++ writes (turn b H)) s
+  on s e = R .same ∙ ap (more (R .done)) e ∙ more-more (R .done) (writes (turn b H)) s
+
   pub way-granted : (c : ℕ) → t ≡ T.Granted c → Gave Got (step5 b h₀) (At c) w₀ v q
   way-granted c e =
       let f : L ≡ suc (L - 1) = suc-of L (λ z. omega (arith, z, now-fewer (T.Granted c) e)) in
       gave-by (R .same)
-      (gave-more (R .done) (sweepOn left b got H) (At c) (R .bytes)
-      (gave-by (sweep-turn b left got H L (L - 1) (left - 1) f (suc-of left n) ∙ after-granted (turn b H) _ _ _ c (now-gave .says ∙ e))
+      (gave-more (R .done) (sweepOn b going got H) (At c) (R .bytes)
+      (gave-by (goes got H ∙ sweep-turn b got H L (L - 1) f ∙ after-granted (turn b H) _ _ _ c (now-gave .says ∙ e))
       (gave-giving (turn b H) t (At c) now-gave)))
 
-  pub way-cached : t ≡ T.Cached → Reach b true (sweepOn left b true) h₀ w₀ v q
+  pub way-cached : t ≡ T.Cached → Reach b true (sweepOn b going true) h₀ w₀ v q
   way-cached e =
       let k = now-so T.Cached e in
       record {
@@ -275,11 +269,11 @@ module _ (b : ℕ) (b16 : b % 16 ≡ 0) (b32 : 32 ≤ b) (left : ℕ) (got : Boo
         good = k .0;
         full = λ z. (k .1, k .2);
         bytes = now-bytes;
-        same = R .same ∙ ap (more (R .done)) (sweep-turn b left got H L (length (bin G unsorted)) (left - 1) (now-fewer T.Cached e) (suc-of left n) ∙ after-cached (turn b H) _ _ _ (now-gave .says ∙ e))
-            ∙ more-more (R .done) (writes (turn b H)) (sweepOn left b true G);
+        same = on (sweepOn b going true G) (goes got H ∙ sweep-turn b got H L (length (bin G unsorted)) (now-fewer T.Cached e) ∙ after-cached (turn b H) _ _ _ (now-gave .says ∙ e)
+            ∙ ap (more (writes (turn b H))) (sym (goes true G)));
       }
 
-  pub way-binned : t ≡ T.Binned → Reach b got (sweepOn (left - 1) b got) h₀ w₀ v q
+  pub way-binned : t ≡ T.Binned → Reach b got (sweepOn b going got) h₀ w₀ v q
   way-binned e =
       let k = now-so T.Binned e in
       record {
@@ -289,12 +283,12 @@ module _ (b : ℕ) (b16 : b % 16 ≡ 0) (b32 : 32 ≤ b) (left : ℕ) (got : Boo
         good = k .0;
         bytes = now-bytes;
         full = λ z. (ap some? (k .1 .lists (cacheOf b) tt) ∙ R .full z .0, R .full z .1);
-        same = R .same ∙ ap (more (R .done)) (sweep-turn b left got H L (length (bin G unsorted)) (left - 1) (now-fewer T.Binned e) (suc-of left n) ∙ after-binned (turn b H) _ _ _ (now-gave .says ∙ e))
-            ∙ more-more (R .done) (writes (turn b H)) (sweepOn (left - 1) b got G);
+        same = on (sweepOn b going got G) (goes got H ∙ sweep-turn b got H L (length (bin G unsorted)) (now-fewer T.Binned e) ∙ after-binned (turn b H) _ _ _ (now-gave .says ∙ e)
+            ∙ ap (more (writes (turn b H))) (sym (goes got G)));
       }
 
   -- nothing was left: the turn did nothing
-  pub way-empty : t ≡ T.Empty → Reach b got (swept b got) h₀ w₀ v q
+  pub way-empty : t ≡ T.Empty → Reach b got (sweepOn b false got) h₀ w₀ v q
   way-empty e =
       let z : L ≡ 0 = now-fewer T.Empty e in
       let m : Gave Turn (ran H [] T.Empty) t w v q = gave-by (sym (turn-empty b H (none (bin H unsorted) z))) now-gave in
@@ -305,7 +299,7 @@ module _ (b : ℕ) (b16 : b % 16 ≡ 0) (b32 : 32 ≤ b) (left : ℕ) (got : Boo
         full = R .full;
         ok = record { shape = R .ok .shape; mem = rw (m .bytes) (R .ok .mem); rec = m .rec };
         bytes = m .bytes ∙ R .bytes;
-        same = R .same ∙ ap (more (R .done)) (sweep-none b left got H L z);
+        same = R .same ∙ ap (more (R .done)) (goes got H ∙ sweep-none b got H L z);
       }
     where
       none : (l : List ℕ) → length l ≡ 0 → some? l ≡ false

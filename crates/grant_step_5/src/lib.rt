@@ -10,7 +10,6 @@ use primitives::take_cache;
 use primitives::unlink;
 use sizes::Chunk;
 use sizes::LARGE;
-use sizes::MOST_BINNED;
 use sizes::NONE32;
 use sizes::REMAINDER_WORD;
 use sizes::UNSORTED;
@@ -103,9 +102,9 @@ pub fn step5(a: &mut [u8], r: &mut [u32], b: u64) -> Got
     requires { ⌜ (b % 16 ≡ 0) × (32 ≤ b) × (b ≤ 262160) × Has Good (arenaWords (now a)) (now r) ⌝ }
     ensures { λ g. ⌜ Does Got Good (step5 b) (arenaWords (now (a .entry))) (now (r .entry)) g (arenaWords (now (a .exit))) (now (r .exit)) ⌝ }
 {
-    let mut left = MOST_BINNED;
+    let mut going = true;
     let mut got = false;
-    while left != 0 {
+    while going {
         let t = turn(a, r, b);
         match t {
             Turn::Granted(c) => {
@@ -114,11 +113,9 @@ pub fn step5(a: &mut [u8], r: &mut [u32], b: u64) -> Got
             Turn::Cached => {
                 got = true;
             }
-            Turn::Binned => {
-                left = left - 1;
-            }
+            Turn::Binned => {}
             Turn::Empty => {
-                return swept(a, r, b, got);
+                going = false;
             }
         }
     }

@@ -4,7 +4,7 @@ use mathlib.Core.Bool.{Bool, true, false}
 use Prim.Native.Nat.{ℕ, zero, suc, _+_, _-_, min}
 use lib.Dec.{eqb, ltb, leb}
 use lib.ListN.{length}
-use Rattle.sizes.specs.Limits.{none64, mostCached, cacheRoom, mostFast, large, unsorted, lastBin, mostBinned, leastChunk}
+use Rattle.sizes.specs.Limits.{none64, mostCached, cacheRoom, mostFast, large, unsorted, lastBin, leastChunk}
 use Rattle.sizes.specs.Sizes.{cacheOf, fastOf, binOf}
 use Rattle.machine.specs.Lists.{both, hd, lst, some?}
 use Rattle.machine.specs.Heap.{Heap, cache, fastAt, fast, bin, anyFast?, topSize, sizeOf, next}
@@ -140,15 +140,13 @@ afterTurn (ran h ws T.Cached) kept sorted over = more ws (kept h)
 afterTurn (ran h ws T.Binned) kept sorted over = more ws (sorted h)
 afterTurn (ran h ws T.Empty) kept sorted over = more ws (over h)
 
--- n turns at most, as each takes a chunk out of unsorted; left: how many more may be binned; got: whether one was cached
-unfoldable pub sweep : ℕ → ℕ → ℕ → Bool → Heap → Ran Got
-sweep zero left b got h = swept b got h
-sweep (suc n) zero b got h = swept b got h
-sweep (suc n) (suc left) b got h =
-    afterTurn (turn b h) (λ g. sweep n (suc left) b true g) (λ g. sweep n left b got g) (λ g. swept b got g)
+-- n turns at most, as each takes a chunk out of unsorted; got: whether one was cached. (Document 02, (xiv), took out "Stop after 10,000 chunks binned".)
+unfoldable pub sweep : ℕ → ℕ → Bool → Heap → Ran Got
+sweep zero b got h = swept b got h
+sweep (suc n) b got h = afterTurn (turn b h) (λ g. sweep n b true g) (λ g. sweep n b got g) (λ g. swept b got g)
 
 unfoldable pub step5 : ℕ → Heap → Ran Got
-step5 b h = sweep (length (bin h unsorted)) mostBinned b false h
+step5 b h = sweep (length (bin h unsorted)) b false h
 
 -- 8. In 6 and 7: a rest under 32 stays with the block and the next P is set; else split, the rest goes first in unsorted,
 -- and in 7 with b < 1,024 it becomes last remainder.

@@ -43,10 +43,6 @@ unsorted = 1
 abbrev pub lastBin : ℕ
 lastBin = 126
 
--- step 5 stops after so many chunks binned
-abbrev pub mostBinned : ℕ
-mostBinned = 10000
-
 -- the record's words, and its bytes
 abbrev pub recordWords : ℕ
 recordWords = 393

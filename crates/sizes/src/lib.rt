@@ -29,7 +29,6 @@ pub use limits::LAST_BIN;
 pub use limits::LEAST_ARENA;
 pub use limits::LEAST_CHUNK;
 pub use limits::MOST_ARENA;
-pub use limits::MOST_BINNED;
 pub use limits::MOST_CACHED;
 pub use limits::MOST_FAST;
 pub use limits::MOST_REQUEST;

@@ -39,9 +39,6 @@ pub const BINS_FROM: u32 = 74;
 
 pub const ALL_LISTS: u32 = 200;
 
-// Step 5 stops after so many chunks binned.
-pub const MOST_BINNED: u32 = 10000;
-
 // The record's words, and its bytes.
 pub const RECORD_WORDS: usize = 393;
 

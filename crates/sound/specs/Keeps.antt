@@ -85,8 +85,8 @@ module _ (b : ℕ) (b16 : b % 16 ≡ 0) (b32 : 32 ≤ b) (h : Heap) (w : List �
   turn-ends = leaves-ends (turn-leaves b b16 b32 h w g m) (turned-good b h)
 
   -- as step 5 calls it, with any turns left, none cached yet
-  pub sweep-ends : (n left : ℕ) → Ends (sweep n left b false h) w Good
-  sweep-ends n left = found-ends (sweep n left b false h) (sweep-leaves b b16 b32 n left false h h w g m (still-here Cached h))
+  pub sweep-ends : (n : ℕ) → Ends (sweep n b false h) w Good
+  sweep-ends n = found-ends (sweep n b false h) (sweep-leaves b b16 b32 n false h h w g m (still-here Cached h))
 
   pub step5-ends : Ends (step5 b h) w Good
   step5-ends = found-ends (step5 b h) (step5-leaves b b16 b32 h w g m)

@@ -19,6 +19,8 @@ pub mod Settle
 pub mod Take
 pub mod Small
 pub mod Sweep
+pub mod Unsorted
+pub mod Stop
 pub mod Large
 pub mod Grant
 pub mod Opened

@@ -9,7 +9,7 @@ use lib.Dec.{eqb, ltb, leb}
 use lib.ListN.{length, getD}
 use lib.Seq.{getD-set-same}
 use borrow.Author.Tests.{eqb-true, ltb-true, leb-true}
-use Rattle.sizes.specs.Limits.{mostCached, cacheRoom, large, unsorted, mostBinned, none64}
+use Rattle.sizes.specs.Limits.{mostCached, cacheRoom, large, unsorted, none64}
 use Rattle.sizes.specs.Sizes.{cacheOf, binOf}
 use Rattle.sizes.specs.SizesLaws.{cacheOf-bound}
 use Rattle.sizes.specs.BinLaws.{binOf-bounds}
@@ -156,17 +156,16 @@ module _ (b : ℕ) (b16 : b % 16 ≡ 0) (b32 : 32 ≤ b) where
   turn-then h₀ h w (ran h₁ ws T.Empty) kept sorted over l k n o = leaves-next over (l .moved) (o h₁ (apply ws w) (l .mem) (l .now)) (λ b x. refl)
       (λ x lo z. (refl, refl))
 
-  pub sweep-leaves : (n left : ℕ) (got : Bool) (h₀ h : Heap) (w : List ℕ) → Good h → Mem h w → Caching got h₀ h
-      → Leaves h w (sweep n left b got h) (Found b h₀) gave nil
+  pub sweep-leaves : (n : ℕ) (got : Bool) (h₀ h : Heap) (w : List ℕ) → Good h → Mem h w → Caching got h₀ h
+      → Leaves h w (sweep n b got h) (Found b h₀) gave nil
   unfolding sweep
-  sweep-leaves zero left got h₀ h w g m k = swept-leaves got h₀ h w g m k
-  sweep-leaves (suc n) zero got h₀ h w g m k = swept-leaves got h₀ h w g m k
-  sweep-leaves (suc n) (suc left) got h₀ h w g m k =
-      turn-then h₀ h w (turn b h) (λ j. sweep n (suc left) b true j) (λ j. sweep n left b got j) (λ j. swept b got j) (turn-leaves h w g m)
-      (λ j v mj p. sweep-leaves n (suc left) true h₀ j v (p .0) mj (p .1, p .2))
-      (λ j v mj p. sweep-leaves n left got h₀ j v (p .0) mj (caching-after got h₀ h j (p .1) k))
+  sweep-leaves zero got h₀ h w g m k = swept-leaves got h₀ h w g m k
+  sweep-leaves (suc n) got h₀ h w g m k =
+      turn-then h₀ h w (turn b h) (λ j. sweep n b true j) (λ j. sweep n b got j) (λ j. swept b got j) (turn-leaves h w g m)
+      (λ j v mj p. sweep-leaves n true h₀ j v (p .0) mj (p .1, p .2))
+      (λ j v mj p. sweep-leaves n got h₀ j v (p .0) mj (caching-after got h₀ h j (p .1) k))
       (λ j v mj p. swept-leaves got h₀ j v (p .0) mj (caching-after got h₀ h j (p .1) k))
 
   pub step5-leaves : (h : Heap) (w : List ℕ) → Good h → Mem h w → Leaves h w (step5 b h) (Found b h) gave nil
   unfolding step5
-  step5-leaves h w g m = sweep-leaves (length (bin h unsorted)) mostBinned false h h w g m (still-here Cached h)
+  step5-leaves h w g m = sweep-leaves (length (bin h unsorted)) false h h w g m (still-here Cached h)
