@@ -18,7 +18,6 @@
 #define FAST_MAX 128u
 #define LARGE_MIN 1024u
 #define REQUEST_MAX 262144u
-#define BINNED_MAX 10000u
 
 enum refusal {
     GRANTED = 0,
@@ -432,10 +431,9 @@ static uint32_t split_last_remainder(struct heap *h, uint32_t c, uint32_t size,
 static uint32_t step5(struct heap *h, uint32_t b)
 {
     bool cached = false;
-    unsigned binned = 0;
     uint32_t c;
 
-    while (binned < BINNED_MAX && (c = bin_last(h, UNSORTED)) != NONE) {
+    while ((c = bin_last(h, UNSORTED)) != NONE) {
         uint32_t size = size_of(h, c);
         if (last_remainder_serves(h, c, size, b)) {
             REACHED(cached ? STEP_5_SPLIT_CACHED : STEP_5_SPLIT);
@@ -444,7 +442,6 @@ static uint32_t step5(struct heap *h, uint32_t b)
         take_last(h, UNSORTED);
         if (size != b) {
             put_in_bin(h, c, size);
-            binned++;
             continue;
         }
         set_p(h, c + size);
