@@ -1,12 +1,37 @@
--- The laws of the bin of a size. Two facts carry them all: what holds on each of document 01's lines holds of the bin (`binOf-cases`), and no
--- line gives less than the bin (`binOf-least`), so that the bins rise with the sizes. Assumes nothing.
-use mathlib.Core.Path.{_≡_, refl, _∙_}
+-- The laws of the bin of a size. The rule of the rows is document 01's chain of lines (`largeBin-chain`). Two facts carry the others: what holds on each
+-- of its lines holds of the bin (`binOf-cases`), and no line gives less than the bin (`binOf-least`), so that the bins rise with the sizes. Assumes nothing.
+use mathlib.Core.Path.{_≡_, refl, sym, _∙_, subst⁻¹}
 use mathlib.Core.Bool.{Bool, true, false}
 use Prim.Native.Nat.{ℕ, _+_, _*_, _/_, _≤_, _<_}
 use native.Mathlib.Omega.{arith}
 use lib.Dec.{ltb, leb}
 use borrow.Author.Tests.{ltb-true, ltb-false, leb-true, leb-false}
 use Rattle.sizes.specs.Sizes.{largeBin, binOf}
+
+-- document 01's lines, one after the other
+abbrev pub chain : ℕ → ℕ
+chain s =
+    elim (leb (s / 64) 48) [
+      | true ↦ 48 + s / 64
+      | false ↦
+          elim (leb (s / 512) 20) [
+            | true ↦ 91 + s / 512
+            | false ↦
+                elim (leb (s / 4096) 10) [
+                  | true ↦ 110 + s / 4096
+                  | false ↦
+                      elim (leb (s / 32768) 4) [
+                        | true ↦ 119 + s / 32768
+                        | false ↦
+                            elim (leb (s / 262144) 2) [ true ↦ 124 + s / 262144 | false ↦ 126 ]
+                      ]
+                ]
+          ]
+    ]
+
+pub largeBin-chain : (s : ℕ) → largeBin s ≡ chain s
+unfolding largeBin
+largeBin-chain s = refl
 
 if-cases : (P : ℕ → Type 0) (t : Bool) {x y : ℕ} → (t ≡ true → P x) → (t ≡ false → P y) → P (elim t [ true ↦ x | false ↦ y ])
 if-cases P true f g = f refl
@@ -20,9 +45,9 @@ pub largeBin-cases : (P : ℕ → Type 0) (s : ℕ)
     → (163840 ≤ s → s < 786432 → P (124 + s / 262144))
     → (786432 ≤ s → P 126)
     → P (largeBin s)
-unfolding largeBin
 largeBin-cases P s p₁ p₂ p₃ p₄ p₅ p₆ =
-    if-cases P (leb (s / 64) 48) (λ e. p₁ (omega (arith, leb-true (s / 64) 48 e))) (λ e.
+    subst⁻¹ P (largeBin-chain s)
+    (if-cases P (leb (s / 64) 48) (λ e. p₁ (omega (arith, leb-true (s / 64) 48 e))) (λ e.
     let h : 3136 ≤ s = omega (arith, leb-false (s / 64) 48 e) in
     if-cases P (leb (s / 512) 20) (λ e. p₂ h (omega (arith, leb-true (s / 512) 20 e))) (λ e.
     let h : 10752 ≤ s = omega (arith, leb-false (s / 512) 20 e) in
@@ -30,7 +55,7 @@ largeBin-cases P s p₁ p₂ p₃ p₄ p₅ p₆ =
     let h : 45056 ≤ s = omega (arith, leb-false (s / 4096) 10 e) in
     if-cases P (leb (s / 32768) 4) (λ e. p₄ h (omega (arith, leb-true (s / 32768) 4 e))) (λ e.
     let h : 163840 ≤ s = omega (arith, leb-false (s / 32768) 4 e) in
-    if-cases P (leb (s / 262144) 2) (λ e. p₅ h (omega (arith, leb-true (s / 262144) 2 e))) (λ e. p₆ (omega (arith, leb-false (s / 262144) 2 e)))))))
+    if-cases P (leb (s / 262144) 2) (λ e. p₅ h (omega (arith, leb-true (s / 262144) 2 e))) (λ e. p₆ (omega (arith, leb-false (s / 262144) 2 e))))))))
 
 pub binOf-cases : (P : ℕ → Type 0) (s : ℕ) → (s < 32 → P 0) → (32 ≤ s → s < 1024 → P (s / 16)) → (1024 ≤ s → P (largeBin s)) → P (binOf s)
 unfolding binOf
@@ -76,7 +101,6 @@ binOf-bounds s h = (bin-monotone 32 s h, binOf-most s)
 
 -- a size and the multiple of 16 below it have one bin: each limit and each divisor is a multiple of 16
 largeBin-round : (s : ℕ) → largeBin (16 * (s / 16)) ≡ largeBin s
-unfolding largeBin
 largeBin-round s =
     let t = 16 * (s / 16) in
     let e₁ : t / 64 ≡ s / 64 = omega arith in
@@ -84,7 +108,8 @@ largeBin-round s =
     let e₃ : t / 4096 ≡ s / 4096 = omega arith in
     let e₄ : t / 32768 ≡ s / 32768 = omega arith in
     let e₅ : t / 262144 ≡ s / 262144 = omega arith in
-    cc
+    let e : chain t ≡ chain s = cc in
+    largeBin-chain t ∙ e ∙ sym (largeBin-chain s)
 
 pub binOf-round : (s : ℕ) → binOf (16 * (s / 16)) ≡ binOf s
 binOf-round s =

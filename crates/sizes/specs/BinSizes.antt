@@ -2,16 +2,23 @@
 -- lines give, so the bins from j on are those of the sizes that come to j on every line. Assumes nothing.
 use mathlib.Core.Path.{_≡_, refl}
 use mathlib.Core.Bool.{Bool, true, false}
+use mathlib.Core.List.{List, [], _∷_}
 use Prim.Native.Nat.{ℕ, _+_, _-_, _*_, _≤_, _<_, max}
 use native.Mathlib.Omega.{arith}
 use lib.Dec.{leb}
 use borrow.Author.Tests.{leb-true, leb-false}
-use Rattle.sizes.specs.Sizes.{binOf}
+use Rattle.sizes.specs.declared.bins.Row.{Row}
+use Rattle.sizes.specs.Sizes.{rows, binOf}
 use Rattle.sizes.specs.BinLaws.{largeBin-cases, binOf-cases, binOf-most}
 
--- the least size of bin j: it has to come to j on every line
+-- the least size that comes to j on each of the lines
+abbrev pub leastOver : List Row → ℕ → ℕ
+leastOver [] j = 0
+leastOver (r ∷ rs) j = max (r .divisor * (j - r .base)) (leastOver rs j)
+
+-- the least size of bin j: it has to come to j on every line, that of the small bins among them
 unfoldable pub leastOf : ℕ → ℕ
-leastOf j = max (16 * j) (max (64 * (j - 48)) (max (512 * (j - 91)) (max (4096 * (j - 110)) (max (32768 * (j - 119)) (262144 * (j - 124))))))
+leastOf j = max (16 * j) (leastOver rows j)
 
 -- s comes to j on every line
 abbrev pub Comes : ℕ → ℕ → Type 0
@@ -31,12 +38,13 @@ comes-of-least j s h₁ =
     let h₄ = max-below _ _ s (h₃ .1) in
     let h₅ = max-below _ _ s (h₄ .1) in
     let h₆ = max-below _ _ s (h₅ .1) in
-    (h₂ .0, h₃ .0, h₄ .0, h₅ .0, h₆ .0, h₆ .1)
+    let h₇ = max-below _ _ s (h₆ .1) in
+    (h₂ .0, h₃ .0, h₄ .0, h₅ .0, h₆ .0, h₇ .0)
 
 least-of-comes : (j s : ℕ) → Comes j s → leastOf j ≤ s
 unfolding leastOf
 least-of-comes j s h =
-    below-max _ _ s (h .0, below-max _ _ s (h .1, below-max _ _ s (h .2, below-max _ _ s (h .3, below-max _ _ s (h .4, h .5)))))
+    below-max _ _ s (h .0, below-max _ _ s (h .1, below-max _ _ s (h .2, below-max _ _ s (h .3, below-max _ _ s (h .4, below-max _ _ s (h .5, omega arith))))))
 
 -- the least size itself
 pub leastOf-comes : (j : ℕ) → Comes j (leastOf j)

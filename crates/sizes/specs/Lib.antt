@@ -7,4 +7,5 @@ pub mod Offsets
 pub mod SizesLaws
 pub mod BinLaws
 pub mod BinSizes
+pub mod Rows
 pub mod Figures

@@ -1,7 +1,9 @@
 -- Where a size belongs: document 01's numbers of a request and of a chunk size. Definitions only.
 use mathlib.Core.Bool.{true, false}
+use mathlib.Core.List.{List, [], _∷_}
 use Prim.Native.Nat.{ℕ, _+_, _-_, _*_, _/_, max}
 use lib.Dec.{ltb, leb}
+use Rattle.sizes.specs.declared.bins.Row.{Row}
 
 -- the chunk size that a request of n bytes needs: n + 23 rounded down to a multiple of 16, and at least 32
 unfoldable pub need : ℕ → ℕ
@@ -19,26 +21,24 @@ cacheOf s = (s - 32) / 16
 unfoldable pub fastOf : ℕ → ℕ
 fastOf s = s / 16 - 2
 
--- the bin of a size of 1,024 or more: the first line that applies
+-- document 01's lines for the sizes of 1,024 or more, in its order: s/divisor ≤ limit gives base + s/divisor
+abbrev pub rows : List Row
+rows =
+    record { divisor = 64; limit = 48; base = 48 }
+    ∷ record { divisor = 512; limit = 20; base = 91 }
+    ∷ record { divisor = 4096; limit = 10; base = 110 }
+    ∷ record { divisor = 32768; limit = 4; base = 119 }
+    ∷ record { divisor = 262144; limit = 2; base = 124 }
+    ∷ []
+
+-- the first line that applies; 126 after them
+abbrev pub firstLine : List Row → ℕ → ℕ
+firstLine [] s = 126
+firstLine (r ∷ rs) s = elim (leb (s / r .divisor) (r .limit)) [ true ↦ r .base + s / r .divisor | false ↦ firstLine rs s ]
+
+-- the bin of a size of 1,024 or more
 unfoldable pub largeBin : ℕ → ℕ
-largeBin s =
-    elim (leb (s / 64) 48) [
-      | true ↦ 48 + s / 64
-      | false ↦
-          elim (leb (s / 512) 20) [
-            | true ↦ 91 + s / 512
-            | false ↦
-                elim (leb (s / 4096) 10) [
-                  | true ↦ 110 + s / 4096
-                  | false ↦
-                      elim (leb (s / 32768) 4) [
-                        | true ↦ 119 + s / 32768
-                        | false ↦
-                            elim (leb (s / 262144) 2) [ true ↦ 124 + s / 262144 | false ↦ 126 ]
-                      ]
-                ]
-          ]
-    ]
+largeBin s = firstLine rows s
 
 -- the bin of a size; 0, which is no bin, for what is no chunk's size
 unfoldable pub binOf : ℕ → ℕ

@@ -1,61 +1,53 @@
--- `sizes::bins::large_bin` meets its contract: the tests that lead to a line open the definition at that line. Assumes nothing.
-use borrow.Author.Tests.{le-leb, lt-leb}
+-- `sizes::bins::large_bin` meets its contract: what is left of the rule is that of the rows not yet read. Assumes nothing.
+use mathlib.Core.Path.{_≡_, refl, sym, _∙_, ap}
+use Prim.Native.Nat.{ℕ, _-_, _≤_}
+use native.Mathlib.Omega.{arith}
+use lib.ListN.{drop}
 use borrow.Author.Needs.{needs}
-use Rattle.sizes.specs.Sizes.{largeBin}
+use Rattle.sizes.specs.Sizes.{rows, firstLine, largeBin}
+use Rattle.sizes.specs.Rows.{row-bounds, firstLine-at, firstLine-after}
 use Rattle.sizes.proofs.bins.large_bin.Statement.{statement}
 use Rattle.sizes.proofs.bins.large_bin.Tie as tie
 
-add-result : tie.Need-add-result
-add-result c = search needs
+abbrev Inv-loop : tie.InvT-loop
+Inv-loop s i₀ i = (i ≤ 5) × (firstLine (drop i rows) s ≡ largeBin s)
 
-returns : tie.Need-returns
+abbrev μ-loop : tie.MeasureT-loop
+μ-loop s i₀ i = 5 - i
+
+loop-holds : tie.Need-loop-holds Inv-loop μ-loop
 unfolding largeBin
-returns c = simp (largeBin, le-leb _ _ (c .if1 .taken))
+loop-holds c = (search needs, refl)
 
-add-result-2 : tie.Need-add-result-2
-add-result-2 c = search needs
+row-at-requires : tie.Need-row-at-requires Inv-loop μ-loop
+row-at-requires c κs = search needs
 
-returns-2 : tie.Need-returns-2
-unfolding largeBin
-returns-2 c = simp (largeBin, lt-leb _ _ (c .before .if1 .left), le-leb _ _ (c .if2 .taken))
+bin-on-requires : tie.Need-bin-on-requires Inv-loop μ-loop
+bin-on-requires c κs = let f = row-bounds (c .before .before .loop .i) (omega arith) (c .row-at .ensures) in (f .0, f .2)
 
-add-result-3 : tie.Need-add-result-3
-add-result-3 c = search needs
+returns : tie.Need-returns Inv-loop μ-loop
+returns c =
+    let h = c .before .before .before .before .loop in
+    let e = c .before .bin-on .ensures in
+    e ∙ sym (firstLine-at (h .i) _ (omega arith) (c .before .before .row-at .ensures) (omega (arith, e, c .if1 .taken))) ∙ h .inv .1
 
-returns-3 : tie.Need-returns-3
-unfolding largeBin
-returns-3 c = simp (largeBin, lt-leb _ _ (c .before .before .if1 .left), lt-leb _ _ (c .before .if2 .left), le-leb _ _ (c .if3 .taken))
+add-i : tie.Need-add-i Inv-loop μ-loop
+add-i c = search needs
 
-add-result-4 : tie.Need-add-result-4
-add-result-4 c = search needs
+loop-less : tie.Need-loop-less Inv-loop μ-loop
+loop-less c = search needs
 
-returns-4 : tie.Need-returns-4
-unfolding largeBin
-returns-4 c = simp (largeBin, lt-leb _ _ (c .before .before .before .if1 .left), lt-leb _ _ (c .before .before .if2 .left), lt-leb _ _ (c .before .if3 .left), le-leb _ _ (c .if4 .taken))
+loop-again : tie.Need-loop-again Inv-loop μ-loop
+loop-again c =
+    let h = c .before .before .before .before .loop in
+    let e = c .before .bin-on .ensures in
+    (search needs, sym (firstLine-after (h .i) _ (omega arith) (c .before .before .row-at .ensures) (sym e ∙ c .if1 .left)) ∙ h .inv .1)
 
-add-result-5 : tie.Need-add-result-5
-add-result-5 c = search needs
-
-returns-5 : tie.Need-returns-5
-unfolding largeBin
-returns-5 c = simp (largeBin, lt-leb _ _ (c .before .before .before .before .if1 .left), lt-leb _ _ (c .before .before .before .if2 .left), lt-leb _ _ (c .before .before .if3 .left), lt-leb _ _ (c .before .if4 .left), le-leb _ _ (c .if5 .taken))
-
-returns-6 : tie.Need-returns-6
-unfolding largeBin
-returns-6 c = simp (largeBin, lt-leb _ _ (c .before .before .before .before .if1 .left), lt-leb _ _ (c .before .before .before .if2 .left), lt-leb _ _ (c .before .before .if3 .left), lt-leb _ _ (c .before .if4 .left), lt-leb _ _ (c .if5 .left))
+returns-2 : tie.Need-returns-2 Inv-loop μ-loop
+returns-2 c =
+    let h = c .before .loop in
+    let e : h .i ≡ 5 = omega arith in
+    ap (λ (i : ℕ). firstLine (drop i rows) (c .before .before .args .s)) (sym e) ∙ h .inv .1
 
 pub large-bin-spec : {M : Type 1} → statement M
-large-bin-spec =
-    tie.close
-    (tie.spec
-    add-result
-    returns
-    add-result-2
-    returns-2
-    add-result-3
-    returns-3
-    add-result-4
-    returns-4
-    add-result-5
-    returns-5
-    returns-6)
+large-bin-spec = tie.close (tie.spec Inv-loop μ-loop loop-holds row-at-requires bin-on-requires returns add-i loop-less loop-again returns-2)

@@ -1,61 +1,71 @@
--- `sizes::bins::least_of_bin` meets its contract: the size comes to j on every line, and on its own line no smaller one does. Assumes nothing.
-use Prim.Native.Nat.{_-_, _*_}
+-- `sizes::bins::least_of_bin` meets its contract: no line before the one that is read has the bin, and the last has what is left. Assumes nothing.
+use mathlib.Core.Path.{_≡_, refl, sym, _∙_, ap, subst}
+use Prim.Native.Nat.{ℕ, _-_, _*_, _≤_}
 use native.Mathlib.Omega.{arith}
 use borrow.Author.Needs.{needs}
 use Rattle.sizes.specs.BinSizes.{leastOf-comes, leastOf-is}
+use Rattle.sizes.specs.Rows.{leastOn, row-bounds, beginOf, Past, base-at-most, leastOn-at, leastOn-after}
 use Rattle.sizes.proofs.bins.least_of_bin.Statement.{statement}
 use Rattle.sizes.proofs.bins.least_of_bin.Tie as tie
 
-mul-result : tie.Need-mul-result
+abbrev Inv-loop : tie.InvT-loop
+Inv-loop j k begins₀ i₀ begins i = (i ≤ 5) × (begins ≡ beginOf i) × Past i j
+
+abbrev μ-loop : tie.MeasureT-loop
+μ-loop j k begins₀ i₀ begins i = 5 - i
+
+mul-result : tie.Need-mul-result Inv-loop μ-loop
 mul-result c = search needs
 
-returns : tie.Need-returns
+returns : tie.Need-returns Inv-loop μ-loop
 returns c = let j = c .before .args .j in leastOf-is j (16 * j) (omega arith) (omega (arith, leastOf-comes j .0))
 
-sub-result : tie.Need-sub-result
-sub-result c = search needs
+loop-holds : tie.Need-loop-holds Inv-loop μ-loop
+loop-holds c = (search needs, refl, c .if1 .left)
 
-mul-result-2 : tie.Need-mul-result-2
-mul-result-2 c = search needs
+row-at-requires : tie.Need-row-at-requires Inv-loop μ-loop
+row-at-requires c κs = search needs
 
-returns-2 : tie.Need-returns-2
-returns-2 c = let j = c .before .before .args .j in leastOf-is j (64 * (j - 48)) (omega arith) (omega (arith, leastOf-comes j .1))
+least-on-requires : tie.Need-least-on-requires Inv-loop μ-loop
+least-on-requires c κs =
+    let h = c .before .before .loop in
+    let f = row-bounds (h .i) (omega arith) (c .row-at .ensures) in
+    (f .2, base-at-most (h .i) _ (omega arith) (c .row-at .ensures) (h .inv .2), f .4)
 
-sub-result-2 : tie.Need-sub-result-2
-sub-result-2 c = search needs
+returns-2 : tie.Need-returns-2 Inv-loop μ-loop
+returns-2 c =
+    let h = c .before .before .before .before .loop in
+    let r = c .before .before .row-at in
+    let j = c .before .before .before .before .before .before .args .j in
+    let e = c .before .least-on .ensures ∙ ap (λ (b : ℕ). leastOn (r .result) b j) (h .inv .1) in
+    e ∙ leastOn-at (h .i) j (omega arith) (r .ensures) (h .inv .2) (omega (arith, e, c .if2 .taken))
 
-mul-result-3 : tie.Need-mul-result-3
-mul-result-3 c = search needs
+add-begins : tie.Need-add-begins Inv-loop μ-loop
+add-begins c = record { fits = omega (arith, row-bounds (c .before .before .before .before .before .loop .i) (omega arith) (c .before .before .before .row-at .ensures) .2) }
 
-returns-3 : tie.Need-returns-3
-returns-3 c = let j = c .before .before .before .args .j in leastOf-is j (512 * (j - 91)) (omega arith) (omega (arith, leastOf-comes j .2))
+mul-begins : tie.Need-mul-begins Inv-loop μ-loop
+mul-begins c = record { fits = row-bounds (c .before .before .before .before .before .before .loop .i) (omega arith) (c .before .before .before .before .row-at .ensures) .3 }
 
-sub-result-3 : tie.Need-sub-result-3
-sub-result-3 c = search needs
+add-i : tie.Need-add-i Inv-loop μ-loop
+add-i c = search needs
 
-mul-result-4 : tie.Need-mul-result-4
-mul-result-4 c = search needs
+loop-less : tie.Need-loop-less Inv-loop μ-loop
+loop-less c = search needs
 
-returns-4 : tie.Need-returns-4
-returns-4 c = let j = c .before .before .before .before .args .j in leastOf-is j (4096 * (j - 110)) (omega arith) (omega (arith, leastOf-comes j .3))
+loop-again : tie.Need-loop-again Inv-loop μ-loop
+loop-again c =
+    let h = c .before .before .before .before .before .before .loop in
+    let r = c .before .before .before .before .row-at in
+    let j = c .before .before .before .before .before .before .before .before .args .j in
+    let e = c .before .before .before .least-on .ensures ∙ ap (λ (b : ℕ). leastOn (r .result) b j) (h .inv .1) in
+    let n = leastOn-after (h .i) j (omega arith) (r .ensures) (h .inv .2) (sym e ∙ c .before .before .if2 .left) in
+    (search needs, n .0, n .1)
 
-sub-result-4 : tie.Need-sub-result-4
-sub-result-4 c = search needs
-
-mul-result-5 : tie.Need-mul-result-5
-mul-result-5 c = search needs
-
-returns-5 : tie.Need-returns-5
-returns-5 c = let j = c .before .before .before .before .before .args .j in leastOf-is j (32768 * (j - 119)) (omega arith) (omega (arith, leastOf-comes j .4))
-
-sub-result-5 : tie.Need-sub-result-5
-sub-result-5 c = search needs
-
-mul-result-6 : tie.Need-mul-result-6
-mul-result-6 c = search needs
-
-returns-6 : tie.Need-returns-6
-returns-6 c = let j = c .before .before .before .before .before .args .j in leastOf-is j (262144 * (j - 124)) (omega arith) (omega (arith, leastOf-comes j .5))
+returns-3 : tie.Need-returns-3 Inv-loop μ-loop
+returns-3 c =
+    let h = c .before .loop in
+    let e : h .i ≡ 5 = omega arith in
+    absurd (omega (arith, subst (λ (i : ℕ). Past i (c .before .before .before .args .j)) e (h .inv .2)))
 
 pub least-of-bin-spec : {M : Type 1} → statement M
-least-of-bin-spec = tie.close (tie.spec mul-result returns sub-result mul-result-2 returns-2 sub-result-2 mul-result-3 returns-3 sub-result-3 mul-result-4 returns-4 sub-result-4 mul-result-5 returns-5 sub-result-5 mul-result-6 returns-6)
+least-of-bin-spec = tie.close (tie.spec Inv-loop μ-loop mul-result returns loop-holds row-at-requires least-on-requires returns-2 add-begins mul-begins add-i loop-less loop-again returns-3)
