@@ -30,7 +30,8 @@
  * use them all. Only usable bytes of a block that is held may be written by
  * the caller; every other byte of the arena, and the whole record, belong to
  * the library from heap_open on. A block's first contents are whatever its
- * bytes held before: nothing is cleared.
+ * bytes held before, and so are those of the bytes by which a resized block
+ * has grown: nothing is cleared.
  *
  *
  * WHAT THE CALLER OWES
@@ -52,18 +53,20 @@
  *
  * no is 0 if the call did what it says, else the number of the first line of
  * this table that applies to the call. mem and usable are 0 in every answer
- * but that of a grant that was not refused.
+ * but that of a grant or a resize that was not refused; a resize that was a
+ * release answers 0 in both.
  *
  *   no  given by                when
  *    1  every call              arena_len is not a multiple of 16 from 32 to
  *                               262,144, or record_len is not 1,572; no byte
  *                               of the buffers is looked at
- *    2  grant                   n is above 262,144
- *    3  grant, release, settle  the heap is not sound: heap_audit says where
- *    4  release                 mem is neither 0 nor a live block's: released
+ *    2  grant, resize           n is above 262,144
+ *    3  grant, release, resize, the heap is not sound: heap_audit says where
+ *       settle
+ *    4  release, resize         mem is neither 0 nor a live block's: released
  *                               already, never granted, not a block's first
  *                               byte, or outside the arena
- *    5  grant                   there is no room for n bytes
+ *    5  grant, resize           there is no room for n bytes
  *
  *   call             no      arena after it            record after it
  *   open             0       bytes 8 to 15 written     written anew
@@ -76,6 +79,9 @@
  *   release          0       changed (below); as it    changed; as it was
  *                            was for mem 0             for mem 0
  *   release          1, 3, 4 as it was                 as it was
+ *   resize           0       changed (below)           changed
+ *   resize           1 to 4  as it was                 as it was
+ *   resize           5       changed (below)           changed
  *   settle           0       changed (below)           changed
  *   settle           1, 3    as it was                 as it was
  *   audit            any     as it was                 as it was
@@ -83,11 +89,15 @@
  * "As it was" holds for every single byte. A call that changes the arena
  * writes headers, links and free memory only: no usable byte of a block that
  * is live before and after the call changes, whatever the call and whatever
- * its answer. Bytes 0 to 7 of the arena are never written.
+ * its answer. A block that is resized keeps so the first of its usable bytes,
+ * wherever it is then: as many as it has both before and after. Bytes 0 to 7 of
+ * the arena are never written.
  *
- * A grant refused with 5 has already sorted free chunks into their bins and
- * joined those of the fast lists, and leaves that done. The cache lists, the
- * last remainder and the live blocks are as they were.
+ * A grant or a resize refused with 5 has already sorted free chunks into their
+ * bins and joined those of the fast lists, and leaves that done. The cache
+ * lists, the last remainder and the live blocks are as they were: the block
+ * that was to be resized is live at its mem, with its usable bytes. The same
+ * resize made again may succeed, by what was joined behind the block.
  *
  * A closed record says: length 0, every count 0, every other word all ones. On
  * an arena of an allowed length every later call but open and audit then
@@ -116,12 +126,14 @@
  * COST
  *
  * The check walks over all chunks, so a call takes time in proportion to
- * their number and to the arena's length. Give a call of grant, release, settle
- * or audit HEAP_STACK_BYTES of stack. The most that was measured is 21,933, over
- * 600 random heaps, of which 20,000 are marks, one for each 16 bytes of an
- * arena in four sizes of array, and 1,572 the record's words. heap_open needs
- * no marks; the most measured is 584. No call is recursive, none takes memory
- * from elsewhere, and none calls back.
+ * their number and to the arena's length; a resize that moves a block copies
+ * its usable bytes as well. Give a call of grant, release, resize, settle or
+ * audit HEAP_STACK_BYTES of stack. The most that was measured is 23,681, by a
+ * resize, and 21,985 by any other, over 600 random heaps, of which 20,000 are
+ * marks, one for each 16 bytes of an arena in four sizes of array, and 1,572
+ * the record's words, which a resize that is a grant or a release has twice.
+ * heap_open needs no marks; the most measured is 632. No call is recursive,
+ * none takes memory from elsewhere, and none calls back.
  *
  * libheap.a is x86-64 code by the System V calling convention.
  */
@@ -164,7 +176,7 @@ enum heap_no {
 
 struct heap_answer {
     uint32_t no;     /* 0, or the refusal's number */
-    uint32_t mem;    /* a grant's block, else 0 */
+    uint32_t mem;    /* the block granted or resized, else 0 */
     uint32_t usable; /* the number of its usable bytes, else 0 */
 };
 
@@ -208,6 +220,22 @@ struct heap_answer heap_grant(uint8_t *arena, size_t arena_len,
 struct heap_answer heap_release(uint8_t *arena, size_t arena_len,
                                 uint8_t *record, size_t record_len,
                                 uint64_t mem);
+
+/*
+ * Gives the block at mem at least n usable bytes, more than it has or fewer,
+ * and answers its mem and its usable bytes as they are then. A block that is
+ * large enough stays where it is, and so does one that finds what it lacks
+ * right behind it; any other is moved, and its old mem names no block any
+ * more. The first usable bytes go with it, as many as the smaller of its old
+ * and its new number of them; no usable byte of another live block changes.
+ *
+ * Mem 0 is a grant of n bytes. Any other mem with n 0 is a release, answered
+ * with 0, 0, 0. Refused with 1, 2, 3, 4 or 5: a live block at mem is then live
+ * there as before, with all its usable bytes.
+ */
+struct heap_answer heap_resize(uint8_t *arena, size_t arena_len,
+                               uint8_t *record, size_t record_len,
+                               uint64_t mem, uint64_t n);
 
 /*
  * Joins all free memory. Released blocks are kept apart for a while, ready

@@ -137,6 +137,12 @@ struct second_answer lent_release(struct lent *l, uint64_t mem)
     return second_release(l->arena, l->length, l->record, l->record_len, mem);
 }
 
+struct second_answer lent_resize(struct lent *l, uint64_t mem, uint64_t n)
+{
+    return second_resize(l->arena, l->length, l->record, l->record_len, mem,
+                         n);
+}
+
 struct second_answer lent_settle(struct lent *l)
 {
     return second_settle(l->arena, l->length, l->record, l->record_len);

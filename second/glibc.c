@@ -3,17 +3,19 @@
  *
  * Each sequence runs in a child of its own, whose malloc has done nothing
  * yet. A first block is taken so that what remains of glibc's top is as long
- * as an arena the second program opens; from there on both get the same calls
- * and every answer must agree, counted from the start of that top. After each
- * call every chunk's size word, the previous sizes that mean something and
- * the links of every binned chunk are compared as well.
+ * as an arena the second program opens; from there on both get the same calls,
+ * a resize being realloc, and every answer must agree, counted from the start
+ * of that top. After each call every chunk's size word, the previous sizes
+ * that mean something and the links of every binned chunk are compared as
+ * well, after a resize also the bytes that the block had from its holder.
  *
  * The address space is then closed, so that glibc refuses where the second
  * program refuses with 5, instead of asking the system for more.
  *
  * Document 01 leaves out that free consolidates when a joining yields 65,536
- * bytes or more. A top below that length never shows it; in the longer ones a
- * sequence ends at the first such joining.
+ * bytes or more, and so does request (i) for what a resize releases. A top
+ * below that length never shows it; in the longer ones a sequence ends at the
+ * first such joining.
  */
 #define _DEFAULT_SOURCE
 
@@ -37,7 +39,7 @@
 int main(void)
 {
     puts("FAILED against glibc: the C library is not glibc; run this test "
-         "on a machine whose C library is glibc 2.26 to 2.41");
+         "on a machine whose C library is glibc 2.27 to 2.41");
     return 1;
 }
 
@@ -47,6 +49,18 @@ int main(void)
 
 #define SLOTS 512
 #define JOIN_LIMIT 65536
+
+/* What a sequence starts with, and how many calls it has. */
+enum top { SHORT_TOP, MIDDLE_TOP, LONG_TOP, TOPS };
+
+static const struct {
+    const char *name;
+    uint32_t least, most, calls;
+} tops[TOPS] = {
+    { "tops below 1,536", 256, 1520, 60 },
+    { "tops below 65,536", 4096, JOIN_LIMIT - 16, 1000 },
+    { "longer tops", JOIN_LIMIT, PLAIN_ARENA_MAX, 1000 },
+};
 
 struct sizes {
     uint32_t palette[6];
@@ -61,6 +75,7 @@ struct pair {
 /* What a child tells; in memory shared with the parent. */
 struct report {
     uint64_t grants, releases, refusals;
+    uint64_t resizes, moved, resizes_refused;
     uint64_t grown, joined; /* sequences ended by a grown top, by a joining */
     uint64_t reached[SECOND_PLACE_COUNT];
     bool failed;
@@ -159,40 +174,62 @@ static void holder_writes(struct duel *d, void *p, uint32_t mem,
     memcpy(p, arena + mem, usable);
 }
 
-/* Answers the mem both gave, or 0. */
+/* Whether both gave the same block, or both refused. */
+static bool same_answer(struct duel *d, struct second_answer a, void *p,
+                        bool grown)
+{
+    uintptr_t mem = (uintptr_t)p - d->base;
+
+    if (a.no == 5 && p != NULL && (grown || mem >= d->length)) {
+        d->report->grown++; /* the system lets glibc grow all the same */
+        d->over = true;
+    } else if (a.no != (p == NULL ? 5 : 0)) {
+        fail(d, "refusal number", a.no, p == NULL ? 5 : 0);
+    } else if (p != NULL) {
+        if (a.mem != mem)
+            fail(d, "mem", a.mem, mem);
+        if (a.usable != malloc_usable_size(p))
+            fail(d, "usable", a.usable, malloc_usable_size(p));
+    }
+    return !d->over;
+}
+
+/* Answers the mem both gave, or 0. A resize of null is a grant. */
 static uint32_t both_grant(struct duel *d, uint64_t n)
 {
     if (d->over || d->pairs == SLOTS)
         return 0;
     d->call++;
-    struct second_answer a =
-        second_grant(arena, d->length, record, sizeof record, n);
+    bool null = random_chance(&d->r, 10);
+    struct second_answer a = null
+        ? second_resize(arena, d->length, record, sizeof record, 0, n)
+        : second_grant(arena, d->length, record, sizeof record, n);
     void *end = sbrk(0);
-    void *p = malloc(n);
-    uintptr_t mem = (uintptr_t)p - d->base;
+    void *p = null ? realloc(NULL, n) : malloc(n);
 
-    if (a.no == 5 && p != NULL && (sbrk(0) != end || mem >= d->length)) {
-        d->report->grown++; /* the system lets glibc grow all the same */
-        d->over = true;
+    if (!same_answer(d, a, p, sbrk(0) != end))
         return 0;
-    }
-    if (a.no != (p == NULL ? 5 : 0)) {
-        fail(d, "refusal number", a.no, p == NULL ? 5 : 0);
-        return 0;
-    }
     if (p == NULL) {
         d->report->refusals++;
     } else {
         d->report->grants++;
-        if (a.mem != mem)
-            fail(d, "mem", a.mem, mem);
-        if (a.usable != malloc_usable_size(p))
-            fail(d, "usable", a.usable, malloc_usable_size(p));
         d->pair[d->pairs++] = (struct pair){ p, a.mem };
     }
     same_heap(d);
     holder_writes(d, p, a.mem, a.usable);
     return a.mem;
+}
+
+/* Document 01 does not have what glibc does at such a joining. */
+static bool joined_too_much(struct duel *d)
+{
+    if (second_trace.released < JOIN_LIMIT)
+        return false;
+    if (second_trace.released > d->length)
+        fail(d, "bytes joined", second_trace.released, 0);
+    d->report->joined++;
+    d->over = true;
+    return true;
 }
 
 static void both_release(struct duel *d, uint32_t i)
@@ -202,20 +239,75 @@ static void both_release(struct duel *d, uint32_t i)
     d->call++;
     struct pair pair = d->pair[i];
     d->pair[i] = d->pair[--d->pairs];
-    struct second_answer a =
-        second_release(arena, d->length, record, sizeof record, pair.mine);
-    if (a.no != 0) {
-        fail(d, "release refused with", a.no, 0);
+    bool zero = random_chance(&d->r, 10); /* a resize to 0 is a release */
+    struct second_answer a = zero
+        ? second_resize(arena, d->length, record, sizeof record, pair.mine, 0)
+        : second_release(arena, d->length, record, sizeof record, pair.mine);
+    if (a.no != 0 || a.mem != 0 || a.usable != 0) {
+        fail(d, "release answers", a.no != 0 ? a.no : a.mem, 0);
         return;
     }
-    if (second_trace.released >= JOIN_LIMIT) {
-        d->report->joined++;
-        d->over = true;
+    if (joined_too_much(d))
         return;
-    }
-    free(pair.theirs);
+    if (!zero)
+        free(pair.theirs);
+    else if (realloc(pair.theirs, 0) != NULL)
+        fail(d, "a resize to 0 hands back", 0, 1);
     d->report->releases++;
     same_heap(d);
+}
+
+/* The bytes that the holder of both has written are the same in both. */
+static void same_bytes(struct duel *d, const struct pair *pair, uint32_t count)
+{
+    for (uint32_t i = 0; i < count && !d->over; i++) {
+        uint8_t theirs = ((const uint8_t *)pair->theirs)[i];
+        if (arena[pair->mine + i] != theirs)
+            fail(d, "byte of a resized block", arena[pair->mine + i], theirs);
+    }
+}
+
+/*
+ * A new length other than 0. The holder has filled the block, so that all it
+ * keeps can be compared.
+ */
+static void both_resize(struct duel *d, uint32_t i, uint64_t n)
+{
+    if (d->over)
+        return;
+    d->call++;
+    struct pair *pair = &d->pair[i];
+    uint32_t kept = (uint32_t)malloc_usable_size(pair->theirs);
+    random_bytes(&d->r, arena + pair->mine, kept);
+    memcpy(pair->theirs, arena + pair->mine, kept);
+
+    struct second_answer a = second_resize(arena, d->length, record,
+                                           sizeof record, pair->mine, n);
+    if (joined_too_much(d))
+        return;
+    void *end = sbrk(0);
+    void *p = realloc(pair->theirs, n);
+    if (!same_answer(d, a, p, sbrk(0) != end))
+        return;
+    if (p == NULL) {
+        d->report->resizes_refused++;
+    } else {
+        d->report->resizes++;
+        d->report->moved += a.mem != pair->mine;
+        *pair = (struct pair){ p, a.mem };
+        kept = a.usable < kept ? a.usable : kept;
+    }
+    same_heap(d);
+    same_bytes(d, pair, kept);
+}
+
+static void both_resize_mem(struct duel *d, uint32_t mem, uint64_t n)
+{
+    for (uint32_t i = 0; i < d->pairs; i++)
+        if (d->pair[i].mine == mem) {
+            both_resize(d, i, n);
+            return;
+        }
 }
 
 /* Releases a mem that both granted; 0, as a refused grant gives, is nothing. */
@@ -301,6 +393,60 @@ static void remainder_that_grows(struct duel *d)
         both_grant(d, n);
 }
 
+/*
+ * Equals kept apart, released, some asked for again; then what keeps them
+ * apart grows to their length: steps 2, 3 and 5 without step 1, the cache list
+ * being empty, partly full or full.
+ */
+static void fences_that_grow(struct duel *d)
+{
+    uint32_t n = 25 + random_request(d), mem[16], fence[16];
+    uint32_t count = 8 + random_below(&d->r, 9);
+
+    for (uint32_t i = 0; i < count; i++) {
+        mem[i] = both_grant(d, n);
+        fence[i] = both_grant(d, random_below(&d->r, 25));
+    }
+    for (uint32_t i = 0; i < count; i++)
+        both_release_mem(d, mem[i]);
+    if (random_chance(&d->r, 40))
+        both_grant(d, n + random_below(&d->r, 200));
+    for (uint32_t i = random_below(&d->r, 9); i > 0; i--)
+        both_grant(d, n);
+    for (uint32_t i = random_below(&d->r, count + 1); i > 0; i--)
+        both_resize_mem(d, fence[i - 1], n);
+}
+
+/*
+ * The chunks before and behind a block are fast when it grows. Joining the one
+ * before clears the block's P; the one behind, alone or joined with what is
+ * behind it, may be what the search finds.
+ */
+static void block_between_fast_chunks(struct duel *d)
+{
+    uint32_t n = random_below(&d->r, 121), mem[7];
+
+    for (uint32_t i = 0; i < 7; i++)
+        mem[i] = both_grant(d, n);
+    uint32_t before = both_grant(d, n);
+    uint32_t block = both_grant(d, random_below(&d->r, n + 1));
+    uint32_t behind = both_grant(d, n);
+    uint32_t last = both_grant(d, random_below(&d->r, 2000));
+    if (random_chance(&d->r, 50))
+        both_grant(d, 24);
+    if (random_chance(&d->r, 70))
+        both_release_mem(d, last);
+    for (uint32_t i = 0; i < 7; i++)
+        both_release_mem(d, mem[i]);
+    both_release_mem(d, before);
+    both_release_mem(d, behind);
+    if (block != 0)
+        both_resize_mem(d, block, random_chance(&d->r, 20) ? n + (n == 0)
+                        : random_chance(&d->r, 50)
+                            ? random_new_length(&d->r, arena, d->length, block)
+                            : 1 + random_below(&d->r, d->length / 4));
+}
+
 static void release_some(struct duel *d)
 {
     uint32_t keep = random_below(&d->r, d->pairs + 1);
@@ -319,9 +465,19 @@ static void fill_long_top(struct duel *d)
                                                : random_below(&d->r, 24000));
 }
 
+static void resize_some(struct duel *d)
+{
+    uint32_t i = random_below(&d->r, d->pairs);
+    uint64_t n = random_chance(&d->r, 40)
+        ? 1 + random_request(d)
+        : random_new_length(&d->r, arena, d->length, d->pair[i].mine);
+    both_resize(d, i, n);
+}
+
 static void run_sequence(struct duel *d, uint32_t calls)
 {
     uint32_t grant_percent = 50 + random_below(&d->r, 10);
+    uint32_t resize_percent = random_below(&d->r, 50);
 
     while (d->call < calls && !d->over) {
         uint32_t drawn = random_below(&d->r, 1000);
@@ -331,6 +487,12 @@ static void run_sequence(struct duel *d, uint32_t calls)
             release_some(d);
         else if (drawn < 24)
             draw_sizes(d);
+        else if (drawn < 28)
+            fences_that_grow(d);
+        else if (drawn < 34)
+            block_between_fast_chunks(d);
+        else if (d->pairs > 0 && random_chance(&d->r, resize_percent))
+            resize_some(d);
         else if (d->pairs == 0 || random_chance(&d->r, grant_percent)) {
             if (both_grant(d, random_request(d)) == 0
                 && random_chance(&d->r, 10))
@@ -378,16 +540,16 @@ static void close_address_space(void)
     setrlimit(RLIMIT_AS, &none);
 }
 
-static void child(struct report *report, uint64_t seed, bool long_top)
+static void child(struct report *report, uint64_t seed, enum top top)
 {
     static struct duel duel;
     struct duel *d = &duel;
 
     *d = (struct duel){ .r = { seed }, .report = report };
     report->seed = seed;
-    uint32_t most = long_top ? 262144 : JOIN_LIMIT - 16;
-    uint32_t least = long_top        ? JOIN_LIMIT
-        : random_chance(&d->r, 20) ? 32 : 4096;
+    uint32_t most = tops[top].most, least = tops[top].least;
+    if (top == MIDDLE_TOP && random_chance(&d->r, 20))
+        least = 32;
     d->length = least + 16 * random_below(&d->r, (most - least) / 16 + 1);
     draw_sizes(d);
     second_open(arena, d->length, record, sizeof record);
@@ -396,24 +558,26 @@ static void child(struct report *report, uint64_t seed, bool long_top)
         return;
     }
     close_address_space();
-    if (long_top)
+    if (top == SHORT_TOP)
+        block_between_fast_chunks(d);
+    else if (top == LONG_TOP)
         fill_long_top(d);
     else if (random_chance(&d->r, 25))
         remainder_that_grows(d);
-    run_sequence(d, 1000);
+    run_sequence(d, tops[top].calls);
     for (unsigned i = 0; i < SECOND_PLACE_COUNT; i++)
         report->reached[i] += second_trace.reached[i];
 }
 
 /* ---- the parent ---- */
 
-static bool run_child(struct report *report, uint64_t seed, bool long_top)
+static bool run_child(struct report *report, uint64_t seed, enum top top)
 {
     pid_t pid = fork();
     int status = 0;
 
     if (pid == 0) {
-        child(report, seed, long_top);
+        child(report, seed, top);
         _exit(0);
     }
     bool ended = pid > 0 && waitpid(pid, &status, 0) == pid
@@ -433,19 +597,22 @@ static bool tell(const char *name, const struct report *report)
                gnu_get_libc_version(), (unsigned long long)report->seed,
                report->call, report->text);
     else
-        printf("ok %s, glibc %s: %llu grants, %llu releases, %llu refusals "
-               "agree; %llu sequences ended early by a joining, %llu by a "
-               "top that grew\n",
+        printf("ok %s, glibc %s: %llu grants, %llu releases, %llu refusals, "
+               "%llu resizes (%llu moved, %llu refused) agree; %llu sequences "
+               "ended early by a joining, %llu by a top that grew\n",
                name, gnu_get_libc_version(), (unsigned long long)report->grants,
                (unsigned long long)report->releases,
                (unsigned long long)report->refusals,
+               (unsigned long long)report->resizes
+                   + (unsigned long long)report->resizes_refused,
+               (unsigned long long)report->moved,
+               (unsigned long long)report->resizes_refused,
                (unsigned long long)report->joined,
                (unsigned long long)report->grown);
     return !report->failed;
 }
 
-static bool every_place_reached(const struct report *report,
-                                const struct report *other)
+static bool every_place_reached(const struct report *report)
 {
 #define PLACE_TEXT(place, text) text,
     static const char *const text[] = { SECOND_PLACES(PLACE_TEXT) };
@@ -453,7 +620,9 @@ static bool every_place_reached(const struct report *report,
     bool all = true;
 
     for (unsigned i = 0; i < SECOND_PLACE_COUNT; i++) {
-        uint64_t times = report->reached[i] + other->reached[i];
+        uint64_t times = 0;
+        for (unsigned top = 0; top < TOPS; top++)
+            times += report[top].reached[i];
         printf("   %9llu times: %s\n", (unsigned long long)times, text[i]);
         all = all && times > 0;
     }
@@ -465,8 +634,9 @@ static bool every_place_reached(const struct report *report,
 
 int main(int argc, char **argv)
 {
-    unsigned long sequences = argc > 1 ? strtoul(argv[1], NULL, 10) : 600;
-    struct report *report = mmap(NULL, 2 * sizeof *report,
+    uint64_t sequences = argc > 1 ? strtoul(argv[1], NULL, 10) : 600;
+    uint64_t count[TOPS] = { 4 * sequences, sequences, sequences / 2 };
+    struct report *report = mmap(NULL, TOPS * sizeof *report,
                                  PROT_READ | PROT_WRITE,
                                  MAP_SHARED | MAP_ANONYMOUS, -1, 0);
     if (report == MAP_FAILED || getenv("GLIBC_TUNABLES") != NULL) {
@@ -475,15 +645,14 @@ int main(int argc, char **argv)
         return 1;
     }
     /* Nothing is printed before the last child: stdio would use malloc. */
-    for (uint64_t seed = 1; seed <= sequences; seed++)
-        if (!run_child(&report[0], seed, false))
-            break;
-    for (uint64_t seed = 1; seed <= sequences / 2; seed++)
-        if (!run_child(&report[1], (seed << 32) + seed, true))
-            break;
-    bool good = tell("tops below 65,536", &report[0]);
-    good = tell("longer tops", &report[1]) && good;
-    good = every_place_reached(&report[0], &report[1]) && good;
+    for (unsigned top = 0; top < TOPS; top++)
+        for (uint64_t seed = 1; seed <= count[top]; seed++)
+            if (!run_child(&report[top], ((uint64_t)top << 32) + seed, top))
+                break;
+    bool good = true;
+    for (unsigned top = 0; top < TOPS; top++)
+        good = tell(tops[top].name, &report[top]) && good;
+    good = every_place_reached(report) && good;
     return good ? 0 : 1;
 }
 

@@ -1,8 +1,9 @@
 /*
- * Document 01's heap. The order of the file: the heap's words, the lists,
- * joining, the numbered steps, the audit, the calls. A call checks shape,
- * then its number, then the whole heap, and only then writes; from there on
- * every offset read from the arena is known to be a chunk.
+ * Document 01's heap, with request (i) of document 02. The order of the file:
+ * the heap's words, the lists, joining, the numbered steps, resizing, the
+ * audit, the calls. A call checks shape, then its number, then the whole heap,
+ * and only then writes; from there on every offset read from the arena is
+ * known to be a chunk.
  */
 #include "heap2.h"
 
@@ -80,6 +81,12 @@ static bool p_of(const struct heap *h, uint32_t c)
 static void size_put(struct heap *h, uint32_t c, uint32_t size)
 {
     field_put(h->arena, c, SIZE_WORD, size | P);
+}
+
+/* A resized block's own P stays as it is at this moment. */
+static void size_put_keeping_p(struct heap *h, uint32_t c, uint32_t size)
+{
+    field_put(h->arena, c, SIZE_WORD, p_of(h, c) ? size | P : size);
 }
 
 static void set_p(struct heap *h, uint32_t c)
@@ -348,6 +355,16 @@ static uint32_t release_past_cache(struct heap *h, uint32_t c)
     return 0;
 }
 
+static void release(struct heap *h, uint32_t c)
+{
+    uint32_t size = size_of(h, c), joined = 0;
+    if (cache_has_room(h, size))
+        cache_push(h, cache_of(size), c);
+    else
+        joined = release_past_cache(h, c);
+    RELEASED(joined);
+}
+
 /*
  * ---- the steps of a grant of chunk size b ----
  * Each that can grant answers the chunk, or NONE.
@@ -548,6 +565,108 @@ static uint32_t steps_2_to_9(struct heap *h, uint32_t b)
     return c;
 }
 
+/*
+ * ---- resizing to chunk size b ----
+ * The first way that serves is taken.
+ */
+
+/*
+ * Gives a block its new size: the bytes up to size are its own and in no list.
+ * A rest under 32 stays with it, a longer one is released as a block is.
+ */
+static void cut_to(struct heap *h, uint32_t c, uint32_t size, uint32_t b)
+{
+    if (size - b < CHUNK_MIN) {
+        size_put_keeping_p(h, c, size);
+        set_p(h, c + size);
+        return;
+    }
+    size_put_keeping_p(h, c, b);
+    size_put(h, c + b, size - b);
+    set_p(h, c + size);
+    REACHED(cache_has_room(h, size - b)   ? RESIZE_REST_CACHED
+            : size - b <= FAST_MAX        ? RESIZE_REST_FAST
+            : c + size == get(h, TOP)     ? RESIZE_REST_TOP
+                                          : RESIZE_REST_JOINED);
+    release(h, c + b);
+}
+
+static bool stays(struct heap *h, uint32_t c, uint32_t b)
+{
+    uint32_t size = size_of(h, c);
+    if (size < b)
+        return false;
+    REACHED(size - b < CHUNK_MIN ? RESIZE_STAYS : RESIZE_SHRINKS);
+    cut_to(h, c, size, b);
+    return true;
+}
+
+/* As in step 9 the top keeps 32 bytes; nothing behind the cut is written. */
+static bool takes_from_top(struct heap *h, uint32_t c, uint32_t b)
+{
+    uint32_t next = c + size_of(h, c);
+    if (next != get(h, TOP))
+        return false;
+    uint32_t both = size_of(h, c) + size_of(h, next);
+    if (both < b + CHUNK_MIN)
+        return false;
+    REACHED(both == b + CHUNK_MIN ? RESIZE_TOP_EXACT : RESIZE_TOP);
+    size_put_keeping_p(h, c, b);
+    size_put(h, c + b, both - b);
+    put(h, TOP, c + b);
+    return true;
+}
+
+static bool takes_in_next(struct heap *h, uint32_t c, uint32_t b)
+{
+    uint32_t next = c + size_of(h, c);
+    if (next == get(h, TOP) || p_of(h, next + size_of(h, next)))
+        return false;
+    uint32_t both = size_of(h, c) + size_of(h, next);
+    if (both < b)
+        return false;
+    REACHED(both - b < CHUNK_MIN ? RESIZE_WITH_NEXT : RESIZE_WITH_NEXT_CUT);
+    unlink_chunk(h, next);
+    cut_to(h, c, both, b);
+    return true;
+}
+
+/*
+ * Answers where the block is then, or NONE: it is live where it was. The steps
+ * may clear its P, or set it, so P is kept as it stands behind them.
+ */
+static uint32_t moves(struct heap *h, uint32_t c, uint32_t b)
+{
+    uint32_t size = size_of(h, c), next = c + size;
+    bool p = p_of(h, c);
+
+    if (b <= CACHE_MAX && get(h, CACHE_COUNT + cache_of(b)) > 0)
+        REACHED(RESIZE_PAST_CACHE);
+    uint32_t found = steps_2_to_9(h, b);
+    if (p && !p_of(h, c))
+        REACHED(found == next ? RESIZE_BEHIND_P : RESIZE_P);
+    if (found == NONE) {
+        REACHED(RESIZE_REFUSED);
+        return NONE;
+    }
+    if (found == next) {
+        REACHED(RESIZE_BEHIND);
+        cut_to(h, c, size + size_of(h, next), b);
+        return c;
+    }
+    REACHED(RESIZE_COPIED);
+    memcpy(h->arena + mem_of(found), h->arena + mem_of(c), size - 8);
+    release(h, c);
+    return found;
+}
+
+static uint32_t resize(struct heap *h, uint32_t c, uint32_t b)
+{
+    if (stays(h, c, b) || takes_from_top(h, c, b) || takes_in_next(h, c, b))
+        return c;
+    return moves(h, c, b);
+}
+
 /* ---- the audit ---- */
 
 /* What the audit knows of the 16 bytes at an offset. */
@@ -731,6 +850,30 @@ struct second_answer second_open(uint8_t *arena, size_t arena_len,
     return answer(GRANTED);
 }
 
+/* Number 2 has been ruled out, so the sum fits. */
+static uint32_t chunk_size_for(uint64_t n)
+{
+    uint32_t b = ((uint32_t)n + 23) & ~15u;
+    return b < CHUNK_MIN ? CHUNK_MIN : b;
+}
+
+/* What a grant or a resize answers: the block as it stands, or number 5. */
+static struct second_answer answer_block(const struct heap *h, uint32_t c)
+{
+    if (c == NONE)
+        return answer(NO_ROOM);
+    return (struct second_answer){ GRANTED, mem_of(c), size_of(h, c) - 8 };
+}
+
+static struct second_answer grant(struct heap *h, uint64_t n)
+{
+    uint32_t b = chunk_size_for(n);
+    uint32_t c = step1(h, b);
+    if (c == NONE)
+        c = steps_2_to_9(h, b);
+    return answer_block(h, c);
+}
+
 struct second_answer second_grant(uint8_t *arena, size_t arena_len,
                                   uint8_t *record, size_t record_len,
                                   uint64_t n)
@@ -743,22 +886,19 @@ struct second_answer second_grant(uint8_t *arena, size_t arena_len,
         return answer(REQUEST_TOO_LARGE);
     if (!sound(&h, &m))
         return answer(NOT_SOUND);
-
-    uint32_t b = ((uint32_t)n + 23) & ~15u;
-    if (b < CHUNK_MIN)
-        b = CHUNK_MIN;
-    uint32_t c = step1(&h, b);
-    if (c == NONE)
-        c = steps_2_to_9(&h, b);
-    if (c == NONE)
-        return answer(NO_ROOM);
-    return (struct second_answer){ GRANTED, mem_of(c), size_of(&h, c) - 8 };
+    return grant(&h, n);
 }
 
 static bool live(const struct heap *h, const struct marks *m, uint64_t mem)
 {
     return mem >= 16 && mem - 16 < h->length && mem % 16 == 0
         && m->at[(mem - 16) / 16] == UNLISTED;
+}
+
+/* Only for the mem of a live block. */
+static uint32_t chunk_of(uint64_t mem)
+{
+    return (uint32_t)mem - 16;
 }
 
 struct second_answer second_release(uint8_t *arena, size_t arena_len,
@@ -775,15 +915,33 @@ struct second_answer second_release(uint8_t *arena, size_t arena_len,
         return answer(GRANTED);
     if (!live(&h, &m, mem))
         return answer(NOT_LIVE);
-
-    uint32_t c = (uint32_t)mem - 16;
-    uint32_t size = size_of(&h, c), joined = 0;
-    if (cache_has_room(&h, size))
-        cache_push(&h, cache_of(size), c);
-    else
-        joined = release_past_cache(&h, c);
-    RELEASED(joined);
+    release(&h, chunk_of(mem));
     return answer(GRANTED);
+}
+
+struct second_answer second_resize(uint8_t *arena, size_t arena_len,
+                                   uint8_t *record, size_t record_len,
+                                   uint64_t mem, uint64_t n)
+{
+    struct heap h;
+    struct marks m;
+    if (!shaped(&h, arena, arena_len, record, record_len))
+        return answer(BAD_SHAPE);
+    if (n > REQUEST_MAX)
+        return answer(REQUEST_TOO_LARGE);
+    if (!sound(&h, &m))
+        return answer(NOT_SOUND);
+    if (mem != 0 && !live(&h, &m, mem))
+        return answer(NOT_LIVE);
+
+    RELEASED(0);
+    if (mem == 0)
+        return grant(&h, n);
+    if (n == 0) {
+        release(&h, chunk_of(mem));
+        return answer(GRANTED);
+    }
+    return answer_block(&h, resize(&h, chunk_of(mem), chunk_size_for(n)));
 }
 
 struct second_answer second_settle(uint8_t *arena, size_t arena_len,

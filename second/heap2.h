@@ -1,6 +1,7 @@
 /*
- * The second program: document 01's heap in plain C, written from the
- * document alone, so that another implementation can be held against it.
+ * The second program: document 01's heap in plain C, with request (i) of
+ * document 02, written from the documents alone, so that another
+ * implementation can be held against it.
  *
  * Each call works on an arena (lent bytes) and its control record (1,572
  * bytes, 393 little-endian words). The two buffers must not overlap; neither
@@ -12,7 +13,10 @@
 #include <stddef.h>
 #include <stdint.h>
 
-/* no: 0, or the refusal's number. mem and usable are 0 unless a grant. */
+/*
+ * no: 0, or the refusal's number. mem and usable are those of the block that
+ * a grant or a resize leaves, else 0.
+ */
 struct second_answer {
     uint32_t no, mem, usable;
 };
@@ -41,6 +45,10 @@ struct second_answer second_grant(uint8_t *arena, size_t arena_len,
 struct second_answer second_release(uint8_t *arena, size_t arena_len,
                                     uint8_t *record, size_t record_len,
                                     uint64_t mem);
+/* Null is granted; a live block of new length 0 is released. */
+struct second_answer second_resize(uint8_t *arena, size_t arena_len,
+                                   uint8_t *record, size_t record_len,
+                                   uint64_t mem, uint64_t n);
 struct second_answer second_settle(uint8_t *arena, size_t arena_len,
                                    uint8_t *record, size_t record_len);
 struct second_fault second_audit(const uint8_t *arena, size_t arena_len,

@@ -1,6 +1,6 @@
 /*
  * Runs a heaplog script from standard input and prints, line for line, what
- * document 01's heaplog prints. Input is fed byte by byte to a line of fixed
+ * document 01's heaplog prints, with document 02's Z for a resize. Input is fed byte by byte to a line of fixed
  * size, so a script, and a line, may be of any length.
  *
  * The exit status is 0 unless reading or writing itself fails.
@@ -12,7 +12,9 @@
 #include "heap2.h"
 #include "layout2.h"
 
-#define LONGEST_LINE 9 /* letter, space, seven digits */
+#define MOST_DIGITS 7
+#define MOST_NUMBERS 2
+#define LONGEST_LINE (1 + MOST_NUMBERS * (1 + MOST_DIGITS))
 #define OPEN_MAX 49152
 
 struct line {
@@ -22,7 +24,7 @@ struct line {
 
 struct call {
     char letter;
-    uint32_t number;
+    uint32_t number[MOST_NUMBERS];
 };
 
 struct run {
@@ -41,27 +43,44 @@ static void line_add(struct line *line, char byte)
         line->length++;
 }
 
+/* How many numbers follow the letter; -1 if there is no such call. */
+static int numbers_of(char letter)
+{
+    switch (letter) {
+    case 'S': return 0;
+    case 'A': case 'G': case 'R': return 1;
+    case 'Z': return 2;
+    default: return -1;
+    }
+}
+
+/* Reads a space and 1 to 7 digits, and moves on behind them. */
+static bool parse_number(const struct line *line, size_t *at, uint32_t *number)
+{
+    size_t digits = 0;
+
+    if (*at == line->length || line->text[*at] != ' ')
+        return false;
+    *number = 0;
+    while (++*at < line->length && line->text[*at] >= '0'
+           && line->text[*at] <= '9' && ++digits <= MOST_DIGITS)
+        *number = 10 * *number + (uint32_t)(line->text[*at] - '0');
+    return digits >= 1 && digits <= MOST_DIGITS;
+}
+
 /* Reads a line of good form, and answers false for any other. */
 static bool parse(const struct line *line, struct call *call)
 {
-    const char *text = line->text;
-    size_t length = line->length;
+    size_t at = 1;
 
-    if (length < 1 || length > LONGEST_LINE)
+    if (line->length < 1 || line->length > LONGEST_LINE)
         return false;
-    *call = (struct call){ text[0], 0 };
-    if (call->letter == 'S')
-        return length == 1;
-    if (call->letter != 'A' && call->letter != 'G' && call->letter != 'R')
-        return false;
-    if (length < 3 || text[1] != ' ')
-        return false;
-    for (size_t i = 2; i < length; i++) {
-        if (text[i] < '0' || text[i] > '9')
+    *call = (struct call){ line->text[0], { 0 } };
+    int numbers = numbers_of(call->letter);
+    for (int i = 0; i < numbers; i++)
+        if (!parse_number(line, &at, &call->number[i]))
             return false;
-        call->number = 10 * call->number + (uint32_t)(text[i] - '0');
-    }
-    return true;
+    return numbers >= 0 && at == line->length;
 }
 
 /* A opens in the first line and nowhere else, and not more than heaplog has. */
@@ -69,22 +88,26 @@ static bool in_place(const struct run *run, const struct call *call)
 {
     bool opens = call->letter == 'A';
     return opens == (run->lines == 1)
-        && (!opens || call->number <= OPEN_MAX);
+        && (!opens || call->number[0] <= OPEN_MAX);
 }
 
 static struct second_answer perform(struct run *run, const struct call *call)
 {
     switch (call->letter) {
     case 'A':
-        run->arena_len = call->number;
+        run->arena_len = call->number[0];
         return second_open(run->arena, run->arena_len, run->record,
                            sizeof run->record);
     case 'G':
         return second_grant(run->arena, run->arena_len, run->record,
-                            sizeof run->record, call->number);
+                            sizeof run->record, call->number[0]);
     case 'R':
         return second_release(run->arena, run->arena_len, run->record,
-                              sizeof run->record, call->number);
+                              sizeof run->record, call->number[0]);
+    case 'Z':
+        return second_resize(run->arena, run->arena_len, run->record,
+                             sizeof run->record, call->number[0],
+                             call->number[1]);
     default:
         return second_settle(run->arena, run->arena_len, run->record,
                              sizeof run->record);

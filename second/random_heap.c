@@ -257,6 +257,43 @@ void random_heap(struct random *r, uint8_t *arena, uint32_t length,
     flawed_heap(r, FLAW_NONE, arena, length, record);
 }
 
+/* ---- new lengths ---- */
+
+static uint32_t size_at(const uint8_t *arena, uint32_t at)
+{
+    return (uint32_t)plain_get(arena + at + 8, 8) & ~15u;
+}
+
+/* The size of the chunk at an offset with some of those behind it. */
+static uint32_t size_of_row(const uint8_t *arena, uint32_t length,
+                            uint32_t from, uint32_t count)
+{
+    uint32_t at = from;
+    for (; count > 0 && at < length; count--)
+        at += size_at(arena, at);
+    return at - from;
+}
+
+uint32_t random_new_length(struct random *r, const uint8_t *arena,
+                           uint32_t length, uint32_t mem)
+{
+    uint32_t c = mem - 16, size = size_at(arena, c), chunk = size;
+
+    switch (random_below(r, 6)) {
+    case 0: chunk += random_below(r, size + 1); break;
+    case 1: chunk -= random_below(r, size); break;
+    case 2: chunk += 32; break;
+    case 3:
+        chunk = size_of_row(arena, length, c + size, 1 + random_below(r, 4));
+        break;
+    default: chunk = size_of_row(arena, length, c, 2); break;
+    }
+    chunk = (chunk + 32 - 16 * random_below(r, 6)) & ~15u;
+    if (chunk < 32 || chunk > length)
+        chunk = 32;
+    return chunk - 8 - random_below(r, 16); /* needs just that chunk */
+}
+
 /* ---- damage ---- */
 
 static uint32_t random_tile(struct random *r, const uint8_t *arena,

@@ -26,6 +26,14 @@ uint32_t random_length(struct random *r, uint32_t most);
 void random_heap(struct random *r, uint8_t *arena, uint32_t length,
                  uint8_t *record);
 
+/*
+ * A new length for the live block at mem of a sound heap, most often near one
+ * at which a resize goes another way: the block's own size, its size with that
+ * of the chunk behind it, the size of one to four chunks behind it.
+ */
+uint32_t random_new_length(struct random *r, const uint8_t *arena,
+                           uint32_t length, uint32_t mem);
+
 /* A rule that a heap breaks throughout, everything else being in order. */
 enum flaw {
     FLAW_NONE,

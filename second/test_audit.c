@@ -136,6 +136,11 @@ static void try_calls(struct random *r, struct lent *l, struct lent *before,
     expect_refused(l, before, lent_grant(l, 262145 + n), 2, "grant", seed);
     expect_refused(l, before, lent_release(l, mem), 3, "release", seed);
     expect_refused(l, before, lent_release(l, 0), 3, "release of null", seed);
+    expect_refused(l, before, lent_resize(l, mem, n), 3, "resize", seed);
+    expect_refused(l, before, lent_resize(l, mem, 0), 3, "resize to 0", seed);
+    expect_refused(l, before, lent_resize(l, 0, n), 3, "resize of null", seed);
+    expect_refused(l, before, lent_resize(l, mem, 262145 + n), 2, "resize",
+                   seed);
     expect_refused(l, before, lent_settle(l), 3, "settle", seed);
 }
 
@@ -190,6 +195,8 @@ static void any_bytes(uint32_t rounds)
                            seed);
             expect_refused(&l, &before, lent_release(&l, 0), 1, "release",
                            seed);
+            expect_refused(&l, &before, lent_resize(&l, 0, 262145), 1,
+                           "resize", seed);
             expect_refused(&l, &before, lent_settle(&l), 1, "settle", seed);
         } else if (f.kind != SECOND_SOUND) {
             try_calls(&r, &l, &before, seed);

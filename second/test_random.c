@@ -2,13 +2,16 @@
  * Random calls, valid and not, on newly opened arenas and on random sound
  * heaps, with holders that write random bytes in their blocks. After every
  * call the heap is audited and held against a model that knows only which
- * blocks were granted and what their holders wrote.
+ * blocks were granted and what their holders wrote. A resize is also put
+ * together from other calls on a copy, and every byte compared.
  */
 #include <stdio.h>
 #include <stdlib.h>
 #include <string.h>
 
+#include "by_parts.h"
 #include "check.h"
+#include "oracle.h"
 #include "plain.h"
 #include "random_heap.h"
 
@@ -21,12 +24,14 @@ struct model {
     uint64_t seed;
     struct lent heap;
     struct lent before;  /* both buffers as they were before the call */
+    struct lent parts;   /* where a resize is put together from other calls */
     uint8_t *owned;      /* one byte for each of the arena: 1 in a held block */
     struct held *block;
     uint32_t blocks;
     uint32_t palette[4];
     uint32_t grant_percent;
     uint32_t calls, refused[6];
+    uint32_t resizes, moved, by_parts; /* resizes of held blocks; of any */
 };
 
 static struct plain_view view;
@@ -40,13 +45,14 @@ static struct plain_view view;
 
 /* ---- the model ---- */
 
-static struct model model_new(uint64_t seed, uint32_t most)
+static struct model model_of_length(struct random r, uint64_t seed,
+                                    uint32_t length)
 {
-    struct model m = { .r = { seed }, .seed = seed };
-    uint32_t length = random_length(&m.r, most);
+    struct model m = { .r = r, .seed = seed };
 
     m.heap = lend(length, 0);
     m.before = lend(length, 0);
+    m.parts = lend(length, 0);
     m.owned = calloc(length, 1);
     m.block = calloc(PLAIN_TILES_MAX, sizeof *m.block);
     if (m.owned == NULL || m.block == NULL) {
@@ -60,10 +66,18 @@ static struct model model_new(uint64_t seed, uint32_t most)
     return m;
 }
 
+static struct model model_new(uint64_t seed, uint32_t most)
+{
+    struct random r = { seed };
+    uint32_t length = random_length(&r, most);
+    return model_of_length(r, seed, length);
+}
+
 static void model_free(struct model *m)
 {
     give_back(&m->heap);
     give_back(&m->before);
+    give_back(&m->parts);
     free(m->owned);
     free(m->block);
 }
@@ -79,6 +93,15 @@ static void hold(struct model *m, uint32_t mem, uint32_t usable)
            "a block overlaps another that is held");
     memset(m->owned + mem, 1, usable);
     m->block[m->blocks++] = (struct held){ mem, usable };
+}
+
+/* Which block is held at mem; there may be none. */
+static uint32_t find(const struct model *m, uint64_t mem)
+{
+    uint32_t i = 0;
+    while (i < m->blocks && m->block[i].mem != mem)
+        i++;
+    return i;
 }
 
 static void let_go(struct model *m, uint32_t i)
@@ -234,9 +257,7 @@ static uint64_t random_mem(struct model *m)
 
 static void call_release(struct model *m, uint64_t mem)
 {
-    uint32_t i = 0;
-    while (i < m->blocks && m->block[i].mem != mem)
-        i++;
+    uint32_t i = find(m, mem);
     struct second_answer a = lent_release(&m->heap, mem);
     bool held = i < m->blocks;
     EXPECT(m, a.no == (held || mem == 0 ? 0 : 4), "a release answers wrongly");
@@ -252,6 +273,100 @@ static void call_release(struct model *m, uint64_t mem)
         refused(m, lent_release(&m->heap, mem));
         EXPECT(m, m->refused[4] > 0, "a double release was not refused");
     }
+}
+
+/* The slow audit too; it is too slow for every call on a long heap. */
+static void audited_slowly(struct model *m)
+{
+    struct lent *h = &m->heap;
+    if (h->length > 2048 && !random_chance(&m->r, h->length > 8192 ? 2 : 20))
+        return;
+    struct second_fault f =
+        oracle_audit(h->arena, h->length, h->record, h->record_len);
+    EXPECT(m, f.no == 0 && f.kind == SECOND_SOUND,
+           "not sound after a resize, says the slow audit");
+}
+
+/* Where other calls can stand for a resize they leave the same bytes. */
+static void same_by_parts(struct model *m, uint64_t mem, uint64_t n,
+                          struct second_answer a)
+{
+    struct second_answer other = { 0, 0, 0 };
+    copy_lent(&m->parts, &m->before);
+    if (!resize_by_parts(&m->parts, (uint32_t)mem, (uint32_t)n, &other))
+        return;
+    m->by_parts++;
+    EXPECT(m, a.no == other.no && a.mem == other.mem
+                  && a.usable == other.usable,
+           "a resize answers otherwise than its parts");
+    EXPECT(m, same_arena(&m->heap, &m->parts)
+                  && same_record(&m->heap, &m->parts),
+           "a resize leaves other bytes than its parts");
+}
+
+/* As realloc promises: its bytes go with a block, up to the shorter length. */
+static void resized(struct model *m, uint32_t i, uint64_t n,
+                    struct second_answer a)
+{
+    struct held old = m->block[i];
+    uint32_t kept = a.usable < old.usable ? a.usable : old.usable;
+
+    EXPECT(m, a.usable >= n && a.usable % 16 == 8,
+           "a resized block is too short for its request");
+    EXPECT(m, a.mem == old.mem || a.usable > old.usable,
+           "a block was moved that is no longer");
+    let_go(m, i);
+    hold(m, a.mem, a.usable);
+    if (!group_failed())
+        EXPECT(m, memcmp(m->heap.arena + a.mem, m->before.arena + old.mem,
+                         kept) == 0,
+               "a resized block lost bytes");
+    m->resizes++;
+    m->moved += a.mem != old.mem;
+}
+
+static void call_resize(struct model *m, uint64_t mem, uint64_t n)
+{
+    uint32_t i = find(m, mem);
+    bool held = i < m->blocks;
+    struct second_answer a = lent_resize(&m->heap, mem, n);
+
+    EXPECT(m, n > 262144 ? a.no == 2 : !held && mem != 0 ? a.no == 4
+               : a.no == 0 || (a.no == 5 && (mem == 0 || n > 0)),
+           "a resize is refused wrongly, or not refused");
+    if (a.no != 0) {
+        refused(m, a);
+        if (a.no == 5)
+            refused_for_room(m);
+    } else if (!held) {
+        EXPECT(m, a.usable >= n, "null is resized too short");
+        hold(m, a.mem, a.usable);
+    } else if (n == 0) {
+        EXPECT(m, a.mem == 0 && a.usable == 0, "a release hands numbers back");
+        let_go(m, i);
+    } else {
+        resized(m, i, n, a);
+    }
+    after_call(m, a.no == 0 && a.mem != 0);
+    audited_slowly(m);
+    if ((a.no == 0 || a.no == 5) && !group_failed())
+        same_by_parts(m, mem, n, a);
+}
+
+/* Mostly of a held block; else of null, or of what is none. */
+static void random_resize(struct model *m)
+{
+    uint64_t mem = random_mem(m), n = random_request(m);
+
+    if (m->blocks > 0 && random_chance(&m->r, 90)) {
+        mem = m->block[random_below(&m->r, m->blocks)].mem;
+        if (random_chance(&m->r, 60))
+            n = random_new_length(&m->r, m->heap.arena,
+                                  (uint32_t)m->heap.length, (uint32_t)mem);
+    } else if (random_chance(&m->r, 50)) {
+        mem = 0;
+    }
+    call_resize(m, mem, random_chance(&m->r, 4) ? 0 : n);
 }
 
 static void call_settle(struct model *m)
@@ -271,8 +386,10 @@ static void call_with_bad_shape(struct model *m)
         h->length -= 1 + random_below(&m->r, 15);
     else
         h->record_len = random_below(&m->r, PLAIN_RECORD_BYTES);
-    struct second_answer a = random_chance(&m->r, 50)
-        ? lent_grant(h, random_below(&m->r, 300000)) : lent_settle(h);
+    uint32_t n = random_below(&m->r, 300000);
+    struct second_answer a = random_chance(&m->r, 35) ? lent_grant(h, n)
+        : random_chance(&m->r, 50) ? lent_resize(h, random_mem(m), n)
+                                   : lent_settle(h);
     h->length = length;
     h->record_len = record_len;
     EXPECT(m, a.no == 1, "a bad shape was not refused with 1");
@@ -306,6 +423,8 @@ static void random_call(struct model *m)
         call_release(m, 0);
     else if (drawn < 87)
         call_burst(m);
+    else if (drawn < 350)
+        random_resize(m);
     else if (m->blocks == 0 || random_chance(&m->r, m->grant_percent))
         call_grant(m, random_request(m));
     else
@@ -315,25 +434,37 @@ static void random_call(struct model *m)
         holder_writes(m, &m->block[random_below(&m->r, m->blocks)]);
 }
 
-static void add_counts(uint64_t *sum, const struct model *m)
+/* What all models of a group did. */
+struct sums {
+    uint64_t calls, refused[6], resizes, moved, by_parts;
+};
+
+static void add_counts(struct sums *sum, const struct model *m)
 {
-    sum[0] += m->calls;
+    sum->calls += m->calls;
     for (unsigned no = 1; no <= 5; no++)
-        sum[no] += m->refused[no];
+        sum->refused[no] += m->refused[no];
+    sum->resizes += m->resizes;
+    sum->moved += m->moved;
+    sum->by_parts += m->by_parts;
 }
 
-static void tell_counts(const uint64_t *sum)
+static void tell_counts(const struct sums *sum)
 {
     remark(", %llu calls, refused with 1: %llu, 2: %llu, 4: %llu, 5: %llu",
-           (unsigned long long)sum[0], (unsigned long long)sum[1],
-           (unsigned long long)sum[2], (unsigned long long)sum[4],
-           (unsigned long long)sum[5]);
+           (unsigned long long)sum->calls, (unsigned long long)sum->refused[1],
+           (unsigned long long)sum->refused[2],
+           (unsigned long long)sum->refused[4],
+           (unsigned long long)sum->refused[5]);
+    remark("; %llu blocks resized, %llu of them moved; %llu resizes by parts",
+           (unsigned long long)sum->resizes, (unsigned long long)sum->moved,
+           (unsigned long long)sum->by_parts);
 }
 
 static void sequences(const char *name, bool opened, uint32_t most,
                       uint32_t rounds, uint32_t calls)
 {
-    uint64_t sum[6] = { 0 };
+    struct sums sum = { 0 };
 
     group(name);
     for (uint64_t seed = 1; seed <= rounds && !group_failed(); seed++) {
@@ -352,10 +483,91 @@ static void sequences(const char *name, bool opened, uint32_t most,
         }
         while (m.calls < calls && !group_failed())
             random_call(&m);
-        add_counts(sum, &m);
+        add_counts(&sum, &m);
         model_free(&m);
     }
-    tell_counts(sum);
+    tell_counts(&sum);
+}
+
+/* ---- resizes that find what is right behind ---- */
+
+static uint32_t granted(struct model *m, uint64_t n)
+{
+    copy_lent(&m->before, &m->heap);
+    call_grant(m, n);
+    m->calls++;
+    return m->blocks == 0 ? 0 : m->block[m->blocks - 1].mem;
+}
+
+static void released(struct model *m, uint32_t mem)
+{
+    copy_lent(&m->before, &m->heap);
+    call_release(m, mem);
+    m->calls++;
+}
+
+/* Leaves a top of 32 to 112 bytes. */
+static void shorten_top(struct model *m)
+{
+    uint32_t left =
+        (uint32_t)m->heap.length - plain_word(m->heap.record, 1);
+    uint32_t keep = 32 + 16 * random_below(&m->r, 6);
+    if (left >= keep + 32)
+        granted(m, left - keep - 8);
+}
+
+/*
+ * Blocks, each with one of n behind it, most of which are then fast; the top
+ * is short. When the blocks are resized, seeking joins the fast chunks: it
+ * clears a block's own P, or finds what has become of the chunk behind it.
+ */
+static void grow_between_fast_chunks(struct model *m, uint32_t n,
+                                     uint32_t count)
+{
+    uint32_t filler[7], block[12], behind[12];
+
+    for (uint32_t i = 0; i < 7; i++)
+        filler[i] = granted(m, n);
+    for (uint32_t i = 0; i < count; i++) {
+        block[i] = granted(m, random_below(&m->r, n + 40));
+        behind[i] = granted(m, n);
+    }
+    if (random_chance(&m->r, 70))
+        shorten_top(m);
+    for (uint32_t i = 0; i < 7 && !group_failed(); i++)
+        released(m, filler[i]);
+    for (uint32_t i = 0; i < count && !group_failed(); i++)
+        if (random_chance(&m->r, 80))
+            released(m, behind[i]);
+    for (uint32_t i = 0; i < 2 * count && !group_failed(); i++) {
+        uint32_t mem = block[random_below(&m->r, count)];
+        uint64_t to = random_chance(&m->r, 30) ? n
+            : random_new_length(&m->r, m->heap.arena,
+                                (uint32_t)m->heap.length, mem);
+        copy_lent(&m->before, &m->heap);
+        if (find(m, mem) < m->blocks)
+            call_resize(m, mem, to);
+        m->calls++;
+    }
+}
+
+static void between_fast_chunks(uint32_t rounds)
+{
+    struct sums sum = { 0 };
+
+    group("resizes of blocks between fast chunks");
+    for (uint64_t seed = 1; seed <= rounds && !group_failed(); seed++) {
+        struct random r = { ~seed };
+        uint32_t n = random_below(&r, 121), count = 2 + random_below(&r, 11);
+        uint32_t length = 7 * (n + 32) + count * (2 * n + 96) + 64;
+        struct model m = model_of_length(r, seed, (length + 15) & ~15u);
+        random_bytes(&m.r, m.heap.arena, m.heap.length);
+        lent_open(&m.heap);
+        grow_between_fast_chunks(&m, n, count);
+        add_counts(&sum, &m);
+        model_free(&m);
+    }
+    tell_counts(&sum);
 }
 
 /* ---- answers do not depend on bytes that mean nothing ---- */
@@ -364,11 +576,24 @@ static void sequences(const char *name, bool opened, uint32_t most,
 static void twin_call(struct model *a, struct model *b)
 {
     bool grant = a->blocks == 0 || random_chance(&a->r, 55);
+    uint32_t i = random_below(&a->r, a->blocks);
     struct second_answer left, right;
 
     if (random_chance(&a->r, 2)) {
         left = lent_settle(&a->heap);
         right = lent_settle(&b->heap);
+    } else if (a->blocks > 0 && random_chance(&a->r, 25)) {
+        uint32_t mem = a->block[i].mem;
+        uint64_t n = random_chance(&a->r, 40)
+            ? random_request(a)
+            : random_new_length(&a->r, a->heap.arena, (uint32_t)a->heap.length,
+                                mem);
+        left = lent_resize(&a->heap, mem, n);
+        right = lent_resize(&b->heap, mem, n);
+        if (left.no == 0)
+            let_go(a, i);
+        if (left.no == 0 && left.mem != 0)
+            hold(a, left.mem, left.usable);
     } else if (grant) {
         uint64_t n = random_request(a);
         left = lent_grant(&a->heap, n);
@@ -376,7 +601,6 @@ static void twin_call(struct model *a, struct model *b)
         if (left.no == 0)
             hold(a, left.mem, left.usable);
     } else {
-        uint32_t i = random_below(&a->r, a->blocks);
         left = lent_release(&a->heap, a->block[i].mem);
         right = lent_release(&b->heap, a->block[i].mem);
         let_go(a, i);
@@ -394,7 +618,7 @@ static void twin_call(struct model *a, struct model *b)
 
 static void twins(uint32_t rounds)
 {
-    uint64_t sum[6] = { 0 };
+    struct sums sum = { 0 };
 
     group("answers and record do not depend on holders' or stale bytes");
     for (uint64_t seed = 1; seed <= rounds && !group_failed(); seed++) {
@@ -406,11 +630,11 @@ static void twins(uint32_t rounds)
         lent_open(&b.heap);
         while (a.calls < 300 && !group_failed())
             twin_call(&a, &b);
-        add_counts(sum, &a);
+        add_counts(&sum, &a);
         model_free(&a);
         model_free(&b);
     }
-    remark(", %llu calls", (unsigned long long)sum[0]);
+    remark(", %llu calls", (unsigned long long)sum.calls);
 }
 
 /* ---- the same on every machine ---- */
@@ -465,6 +689,7 @@ int main(int argc, char **argv)
               20000 / share, 12);
     sequences("random calls from random large heaps", false, PLAIN_ARENA_MAX,
               600 / share, 12);
+    between_fast_chunks(4000 / share);
     twins(400 / share);
     return finish();
 }

@@ -4,80 +4,8 @@
  */
 #include <string.h>
 
-#include "check.h"
 #include "plain.h"
-
-#define NONE PLAIN_NONE32
-
-static struct lent l;
-
-static void start(uint32_t length)
-{
-    l = lend(length, 0xa5);
-    struct second_answer a = lent_open(&l);
-    CHECK(a.no == 0 && a.mem == 0 && a.usable == 0, "open of %u answers %u",
-          length, a.no);
-    CHECK(lent_sound(&l), "a newly opened arena of %u is not sound", length);
-}
-
-static void stop(void)
-{
-    give_back(&l);
-}
-
-static void answers(const char *call, struct second_answer a, uint32_t no,
-                    uint32_t mem, uint32_t usable)
-{
-    CHECK(a.no == no && a.mem == mem && a.usable == usable,
-          "%s answers %u %u %u, not %u %u %u", call, a.no, a.mem, a.usable, no,
-          mem, usable);
-    CHECK(lent_sound(&l), "not sound after %s", call);
-}
-
-static void grants(uint64_t n, uint32_t mem, uint32_t usable)
-{
-    answers("grant", lent_grant(&l, n), 0, mem, usable);
-}
-
-static void refuses(uint64_t n, uint32_t no)
-{
-    answers("grant", lent_grant(&l, n), no, 0, 0);
-}
-
-static void releases(uint64_t mem)
-{
-    answers("release", lent_release(&l, mem), 0, 0, 0);
-}
-
-static void settles(void)
-{
-    answers("settle", lent_settle(&l), 0, 0, 0);
-}
-
-static void word_is(const char *name, unsigned word, uint32_t expected)
-{
-    uint32_t v = plain_word(l.record, word);
-    CHECK(v == expected, "%s is %u, not %u", name, v, expected);
-}
-
-static void cache_is(unsigned k, uint32_t head, uint32_t count)
-{
-    word_is("cache head", plain_cache_head(k), head);
-    word_is("cache count", plain_cache_count(k), count);
-}
-
-static void bin_is(unsigned bin, uint32_t first, uint32_t last)
-{
-    word_is("first of bin", plain_bin_first(bin), first);
-    word_is("last of bin", plain_bin_last(bin), last);
-}
-
-static void eight_is(uint32_t at, uint64_t expected)
-{
-    uint64_t v = plain_get(l.arena + at, 8);
-    CHECK(v == expected, "the number at %u is %llu, not %llu", at,
-          (unsigned long long)v, (unsigned long long)expected);
-}
+#include "traces.h"
 
 /* ---- figures ---- */
 
@@ -155,7 +83,7 @@ static void eight_released(void)
     for (uint32_t i = 0; i < 8; i++)
         releases(32 * i + 16);
     cache_is(0, 192, 7);
-    word_is("fast head 0", plain_fast_head(0), 224);
+    fast_is(0, 224);
     word_is("top", 1, 256);
     eight_is(224 + 16, PLAIN_NONE64);
     eight_is(192 + 16, 160);
@@ -198,7 +126,7 @@ static void opened(uint32_t length)
     }
     eight_is(8, length + 1);
     for (uint32_t i = 0; i < length; i++)
-        CHECK(l.arena[i] == 0xa5 || (i >= 8 && i < 16),
+        CHECK(heap.arena[i] == 0xa5 || (i >= 8 && i < 16),
               "open wrote the byte at %u", i);
 }
 
@@ -223,11 +151,12 @@ static void opens(void)
 
     group("a closed record makes later calls answer 3");
     start(256);
-    CHECK(second_open(l.arena, 255, l.record, l.record_len).no == 1,
+    CHECK(second_open(heap.arena, 255, heap.record, heap.record_len).no == 1,
           "an arena of 255 bytes was opened");
-    CHECK(lent_audit(&l).kind == SECOND_RECORD, "a closed record is sound");
-    CHECK(lent_grant(&l, 24).no == 3 && lent_release(&l, 0).no == 3
-              && lent_settle(&l).no == 3,
+    CHECK(lent_audit(&heap).kind == SECOND_RECORD, "a closed record is sound");
+    CHECK(lent_grant(&heap, 24).no == 3 && lent_release(&heap, 0).no == 3
+              && lent_resize(&heap, 0, 24).no == 3
+              && lent_settle(&heap).no == 3,
           "a call on a closed record was not refused with 3");
     stop();
 }
@@ -289,13 +218,13 @@ static void not_live(void)
     grants(24, 80, 24);
     releases(48);
     struct lent before = lend(1024, 0);
-    copy_lent(&before, &l);
+    copy_lent(&before, &heap);
     for (unsigned i = 0; i < sizeof mem / sizeof mem[0]; i++)
-        answers("release", lent_release(&l, mem[i]), 4, 0, 0);
-    answers("release", lent_release(&l, 48), 4, 0, 0);
-    answers("release", lent_release(&l, 112), 4, 0, 0);
+        answers("release", lent_release(&heap, mem[i]), 4, 0, 0);
+    answers("release", lent_release(&heap, 48), 4, 0, 0);
+    answers("release", lent_release(&heap, 112), 4, 0, 0);
     releases(0);
-    CHECK(same_arena(&l, &before) && same_record(&l, &before),
+    CHECK(same_arena(&heap, &before) && same_record(&heap, &before),
           "a refused release or one of null wrote");
     give_back(&before);
     stop();
@@ -525,12 +454,12 @@ static void refused_leaves_its_steps(void)
     releases(1488);        /* fast, before the top */
     releases(336);         /* unsorted */
     word_is("top", 1, 1504);
-    word_is("fast head", plain_fast_head(0), 1472);
+    fast_is(0, 1472);
     struct lent before = lend(4096, 0);
-    copy_lent(&before, &l);
+    copy_lent(&before, &heap);
     refuses(200000, 5);
     for (unsigned k = 0; k < 10; k++)
-        word_is("fast head", plain_fast_head(k), NONE);
+        fast_is(k, NONE);
     word_is("top", 1, 1472);
     eight_is(1472 + 8, 4096 - 1472 + 1);
     bin_is(1, NONE, NONE);
@@ -538,7 +467,7 @@ static void refused_leaves_its_steps(void)
     bin_is(66, 288, 288); /* 32 at 288 joined with 1,120 at 320 */
     eight_is(288 + 8, 1152 + 1);
     eight_is(320 + 8, 1120 + 1);
-    CHECK(memcmp(l.record + 8, before.record + 8, 4 * 129) == 0,
+    CHECK(memcmp(heap.record + 8, before.record + 8, 4 * 129) == 0,
           "last remainder or cache changed");
     give_back(&before);
     stop();
@@ -555,7 +484,7 @@ static void fast_moves_reversed(void)
     for (uint32_t i = 0; i < 7; i++)
         grants(24, 32 * (6 - i) + 16, 24);
     grants(24, 32 * 11 + 16, 24);
-    word_is("fast head", plain_fast_head(0), NONE);
+    fast_is(0, NONE);
     cache_is(0, 32 * 7, 4);
     eight_is(32 * 7 + 16, 32 * 8);
     eight_is(32 * 8 + 16, 32 * 9);
@@ -583,7 +512,7 @@ static void settle_clears_the_remainder(void)
     settles();
     struct lent fresh = lend(8192, 0);
     lent_open(&fresh);
-    CHECK(same_record(&l, &fresh), "the record is not the newly opened one");
+    CHECK(same_record(&heap, &fresh), "the record is not the newly opened one");
     eight_is(8, 8193);
     give_back(&fresh);
     stop();

@@ -35,7 +35,23 @@
     PLACE(JOIN_BEFORE, "join with the chunk before")                          \
     PLACE(JOIN_AFTER, "join with the chunk after")                            \
     PLACE(JOIN_BOTH, "join with both")                                        \
-    PLACE(JOIN_TOP, "join with the top")
+    PLACE(JOIN_TOP, "join with the top")                                      \
+    PLACE(RESIZE_STAYS, "resize: large enough, nothing cut off")              \
+    PLACE(RESIZE_SHRINKS, "resize: large enough, a rest cut off")             \
+    PLACE(RESIZE_TOP, "resize: takes from the top")                           \
+    PLACE(RESIZE_TOP_EXACT, "resize: takes from the top, which keeps 32")     \
+    PLACE(RESIZE_WITH_NEXT, "resize: takes in all of the chunk behind")       \
+    PLACE(RESIZE_WITH_NEXT_CUT, "resize: takes in a part of the one behind")  \
+    PLACE(RESIZE_PAST_CACHE, "resize: seeks past a cached chunk of its size") \
+    PLACE(RESIZE_BEHIND, "resize: joins a new block right behind")            \
+    PLACE(RESIZE_BEHIND_P, "resize: the same, its own P cleared meanwhile")   \
+    PLACE(RESIZE_P, "resize: its own P cleared, not joined")                  \
+    PLACE(RESIZE_COPIED, "resize: copies to a new block")                     \
+    PLACE(RESIZE_REFUSED, "resize: finds no room")                            \
+    PLACE(RESIZE_REST_CACHED, "resize: the rest is cached")                   \
+    PLACE(RESIZE_REST_FAST, "resize: the rest goes on a fast list")           \
+    PLACE(RESIZE_REST_JOINED, "resize: the rest goes in unsorted")            \
+    PLACE(RESIZE_REST_TOP, "resize: the rest becomes top")
 
 #define SECOND_PLACE_NAME(place, text) place,
 enum second_place { SECOND_PLACES(SECOND_PLACE_NAME) SECOND_PLACE_COUNT };
@@ -43,7 +59,8 @@ enum second_place { SECOND_PLACES(SECOND_PLACE_NAME) SECOND_PLACE_COUNT };
 
 struct second_trace {
     uint64_t reached[SECOND_PLACE_COUNT];
-    uint32_t released; /* what the joining of the last release yielded, or 0 */
+    uint32_t released; /* what the joining in the last call that released
+                          yielded, or 0; a resize that released nothing: 0 */
 };
 
 /* Exists in a build with SECOND_TRACE only. */

@@ -1,9 +1,10 @@
 /*
  * The archive against the second program. Every call is made on both, from
  * the same bytes; answer, every record byte and every arena byte must come out
- * the same, and so must the audits after it. What document 01 says outright
- * (refusals that write nothing, demand 3, the figures it marks 'run and
- * compared') is checked on the archive by itself as well.
+ * the same, and so must the audits after it. What the documents say outright
+ * (refusals that write nothing, the bytes that a resized block and all others
+ * keep, demand 3, the figures marked 'run and compared') is checked on the
+ * archive by itself as well.
  *
  * Seeds are fixed: a run is the same everywhere. The argument, a number, makes
  * it that many times as long, with further seeds. This file has the order of
@@ -70,6 +71,7 @@ int main(int argc, char **argv)
               300);
     sequences("random calls in the smallest arenas", 32, 256, 150 * times, 60);
     in_turn(10 * times);
+    between_fast_chunks(4000 * times);
     equal_sizes(120 * times);
     sound_heaps("random sound heaps up to 8,192", 8192, 8000 * times);
     sound_heaps("random sound heaps up to 262,144", 262144, 200 * times);

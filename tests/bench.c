@@ -3,7 +3,8 @@
  * bare walk over the size words, which is the least that an audited call could
  * cost. The script tests/bench makes the table.
  *
- *   bench prepare FOLDER          writes the heaps and the day's calls there
+ *   bench prepare FOLDER          writes the heaps and the calls of a day and
+ *                                 of growing curves there
  *   bench time FOLDER             prints nanoseconds for each case
  *   bench run FOLDER CASE WHO TIMES [prepare]
  *                                 runs one case, for counting instructions;
@@ -28,10 +29,15 @@
 
 #define DAY_BYTES 49152
 #define DAY_CALLS 300
+#define CURVES 4
+#define GROWTH_FROM 64
+#define GROWTH_TO 4096
+#define GROWTH_STEP 192
+#define GROWTHS (CURVES * ((GROWTH_TO - GROWTH_FROM) / GROWTH_STEP))
 #define ROUNDS 5
 
 enum who { ARCHIVE, SECOND, WALK, WHOS };
-enum kind { PAIR, AUDIT, SETTLE, DAY };
+enum kind { PAIR, AUDIT, SETTLE, GROW, DAY };
 
 static const char *const who_name[] = { "archive", "second", "walk" };
 
@@ -51,6 +57,10 @@ static const struct bench {
     { "settle-64", "settle, 64 chunks", SETTLE, 64, 16, 12 },
     { "settle-1000", "settle, 1,000 chunks", SETTLE, 1000, 4, 25 },
     { "settle-8000", "settle, 8,000 chunks", SETTLE, 8000, 1, 40 },
+    { "grow-64", "resize of curves that grow, 64 chunks", GROW, 64, GROWTHS,
+      12 },
+    { "grow-1000", "resize of curves that grow, 1,000 chunks", GROW, 1000,
+      GROWTHS, 3 },
     { "day", "a day of dip curves in 48 KiB, one call", DAY, 0, DAY_CALLS, 4 }
 };
 #define BENCHES (sizeof bench / sizeof bench[0])
@@ -62,12 +72,12 @@ struct heap {
 };
 
 struct call {
-    char letter; /* A, G, R or S, as in heaplog's scripts */
-    uint32_t number;
+    char letter; /* A, G, R, Z or S, as in heaplog's scripts */
+    uint32_t number, n; /* n: of a resize */
 };
 
 static struct heap image, work;
-static struct call day[DAY_CALLS];
+static struct call day[DAY_CALLS], growth[GROWTHS];
 static volatile uint64_t sink;
 
 /* ---- files ---- */
@@ -137,6 +147,19 @@ static uint32_t call(enum who who, struct heap *h, char letter, uint64_t n)
     }
 }
 
+static uint32_t resize(enum who who, struct heap *h, uint64_t mem, uint64_t n)
+{
+    if (who == ARCHIVE)
+        return heap_resize(h->arena, h->length, h->record, 1572, mem, n).mem;
+    return second_resize(h->arena, h->length, h->record, 1572, mem, n).mem;
+}
+
+static uint32_t make(enum who who, struct heap *h, const struct call *c)
+{
+    return c->letter == 'Z' ? resize(who, h, c->number, c->n)
+                            : call(who, h, c->letter, c->number);
+}
+
 /* From size word to size word, to the end. */
 static __attribute__((noinline)) uint64_t walk(const struct heap *h)
 {
@@ -158,15 +181,24 @@ static uint64_t pair_request(uint32_t i)
     return request[i % 4];
 }
 
+static bool is_script(const struct bench *b)
+{
+    return b->kind == DAY || b->kind == GROW;
+}
+
+static const struct call *script_call(const struct bench *b, uint32_t i)
+{
+    return b->kind == DAY ? &day[i % DAY_CALLS] : &growth[i % GROWTHS];
+}
+
 static void before(const struct bench *b, enum who who, uint32_t i)
 {
-    if (b->kind == SETTLE) {
+    if (b->kind == SETTLE || (b->kind == GROW && i % GROWTHS == 0)) {
         memcpy(work.record, image.record, sizeof work.record);
         memcpy(work.arena, image.arena, work.length);
-    } else if (b->kind == DAY && who == WALK) {
-        sink += call(SECOND, &work, day[i % DAY_CALLS].letter,
-                     day[i % DAY_CALLS].number);
     }
+    if (is_script(b) && who == WALK)
+        sink += make(SECOND, &work, script_call(b, i));
 }
 
 static void measured(const struct bench *b, enum who who, uint32_t i)
@@ -188,9 +220,9 @@ static void measured(const struct bench *b, enum who who, uint32_t i)
     case SETTLE:
         sink += call(who, &work, 'S', 0);
         break;
+    case GROW:
     case DAY:
-        sink += call(who, &work, day[i % DAY_CALLS].letter,
-                     day[i % DAY_CALLS].number);
+        sink += make(who, &work, script_call(b, i));
         break;
     }
 }
@@ -204,7 +236,12 @@ static void load_case(const struct bench *b, const char *folder)
         work.length = DAY_BYTES;
         return;
     }
-    snprintf(name, sizeof name, "%s-%u", b->kind == PAIR ? "warm" : "heap",
+    if (b->kind == GROW) {
+        snprintf(name, sizeof name, "growth-%u", b->chunks);
+        load(folder, name, growth, sizeof growth);
+    }
+    snprintf(name, sizeof name, "%s-%u",
+             b->kind == PAIR ? "warm" : b->kind == GROW ? "grow" : "heap",
              b->chunks);
     load(folder, name, &image, sizeof image);
     work = image;
@@ -230,24 +267,37 @@ static void must(bool good, const char *what)
     exit(2);
 }
 
-/* Blocks of mixed sizes, every fourth released. */
-static void prepare_heap(const char *folder, uint32_t chunks)
+/*
+ * Blocks of mixed sizes, every fourth released. Some of the others may be
+ * curves as they begin, far apart.
+ */
+static void fill_image(uint32_t chunks, uint32_t most, uint32_t curves,
+                       uint32_t *curve)
 {
     struct random r = { chunks };
     static uint32_t mem[HEAP_ARENA_MAX / 32];
-    uint32_t most = chunks == 64 ? 3900 : chunks == 1000 ? 400 : 1;
-    char name[64];
 
     memset(&image, 0, sizeof image);
     image.length = HEAP_ARENA_MAX;
     call(SECOND, &image, 'A', 0);
     for (uint32_t i = 0; i + 1 < chunks; i++) {
-        mem[i] = call(SECOND, &image, 'G', 24 + random_below(&r, most));
+        uint32_t n = 24 + random_below(&r, most);
+        bool is_curve = curves > 0 && i % (chunks / curves) == 0;
+        mem[i] = call(SECOND, &image, 'G', is_curve ? GROWTH_FROM : n);
         must(mem[i] != 0, "no room for the heap to be measured");
+        if (is_curve)
+            curve[i / (chunks / curves)] = mem[i];
     }
     for (uint32_t i = 1; i + 2 < chunks; i += 4)
         call(SECOND, &image, 'R', mem[i]);
     must(walk(&image) == chunks, "the heap has another number of chunks");
+}
+
+static void prepare_heap(const char *folder, uint32_t chunks, uint32_t most)
+{
+    char name[64];
+
+    fill_image(chunks, most, 0, NULL);
     snprintf(name, sizeof name, "heap-%u", chunks);
     save(folder, name, &image, sizeof image);
 
@@ -255,6 +305,27 @@ static void prepare_heap(const char *folder, uint32_t chunks)
     run_case(&(struct bench){ .kind = PAIR }, SECOND, 8, true);
     snprintf(name, sizeof name, "warm-%u", chunks);
     save(folder, name, &work, sizeof work);
+}
+
+/* Each curve in turn by one step, until all are as long as they become. */
+static void prepare_growth(const char *folder, uint32_t chunks, uint32_t most)
+{
+    uint32_t curve[CURVES];
+    char name[64];
+
+    fill_image(chunks, most, CURVES, curve);
+    snprintf(name, sizeof name, "grow-%u", chunks);
+    save(folder, name, &image, sizeof image);
+    for (uint32_t i = 0; i < GROWTHS; i++) {
+        uint32_t *mem = &curve[i % CURVES];
+        growth[i] = (struct call){
+            'Z', *mem, GROWTH_FROM + (1 + i / CURVES) * GROWTH_STEP
+        };
+        *mem = make(SECOND, &image, &growth[i]);
+        must(*mem != 0, "no room for a curve to grow");
+    }
+    snprintf(name, sizeof name, "growth-%u", chunks);
+    save(folder, name, growth, sizeof growth);
 }
 
 /* Curves that are kept for some heats, alarm texts, a settle each shift. */
@@ -270,13 +341,13 @@ static void prepare_day(const char *folder)
             ? &curve[random_below(&r, 24)] : &text[random_below(&r, 40)];
         bool is_curve = slot >= curve && slot < curve + 24;
         struct call c = { 'G', is_curve ? 400 + random_below(&r, 2200)
-                                        : 20 + random_below(&r, 90) };
+                                        : 20 + random_below(&r, 90), 0 };
         if (made == 0)
-            c = (struct call){ 'A', DAY_BYTES };
+            c = (struct call){ 'A', DAY_BYTES, 0 };
         else if (made % 100 == 99)
-            c = (struct call){ 'S', 0 };
+            c = (struct call){ 'S', 0, 0 };
         else if (*slot != 0)
-            c = (struct call){ 'R', *slot };
+            c = (struct call){ 'R', *slot, 0 };
         uint32_t mem = call(SECOND, &work, c.letter, c.number);
         if (c.letter == 'G' || c.letter == 'R')
             *slot = c.letter == 'G' ? mem : 0;
@@ -287,9 +358,11 @@ static void prepare_day(const char *folder)
 
 static void prepare(const char *folder)
 {
-    prepare_heap(folder, 64);
-    prepare_heap(folder, 1000);
-    prepare_heap(folder, 8000);
+    prepare_heap(folder, 64, 3900);
+    prepare_heap(folder, 1000, 400);
+    prepare_heap(folder, 8000, 1);
+    prepare_growth(folder, 64, 3900);
+    prepare_growth(folder, 1000, 300);
     prepare_day(folder);
 }
 
@@ -319,7 +392,7 @@ static double nanoseconds(const struct bench *b, const char *folder,
                           enum who who)
 {
     uint32_t times = b->times * b->repeat;
-    bool each = b->kind == SETTLE || b->kind == DAY;
+    bool each = b->kind == SETTLE || is_script(b);
     double sum = 0, cost = each ? clock_cost() : 0;
 
     load_case(b, folder);

@@ -1,6 +1,6 @@
 /*
- * The figures and traces of document 01, read off the archive's answers and
- * record words.
+ * The figures and traces of document 01, and traces of resizes, read off the
+ * archive's answers and record words.
  */
 #include "groups.h"
 
@@ -125,17 +125,23 @@ void arenas(void)
     pair_free(&p);
 }
 
-/* Runs words such as 8G200 (eight grants), R16, S; answers the last answer. */
+/*
+ * Runs words such as 8G200 (eight grants), R16, Z16,24 (block 16 resized to 24
+ * bytes), S; answers the last answer.
+ */
 static struct second_answer run(struct pair *p, const char *script)
 {
     struct second_answer a = { 0, 0, 0 };
     while (*script != '\0') {
         char *at;
         unsigned long times = strtoul(script, &at, 10);
-        enum call call = *at == 'G' ? GRANT : *at == 'R' ? RELEASE : SETTLE;
+        enum call call = *at == 'G' ? GRANT : *at == 'R' ? RELEASE
+            : *at == 'Z'            ? RESIZE : SETTLE;
         uint64_t number = strtoull(at + 1, &at, 10);
+        uint64_t n = call == RESIZE ? strtoull(at + 1, &at, 10) : 0;
         for (unsigned long i = 0; i < (times == 0 ? 1 : times); i++)
-            a = both(p, call, number);
+            a = call == RESIZE ? both_resize(p, number, n)
+                               : both(p, call, number);
         script = *at == ' ' ? at + 1 : at;
     }
     return a;
@@ -174,7 +180,31 @@ void traces(void)
           "16G24 R16 R48 R80 R112 R144 R176 R208 R240 R272 R304 R336 G400", 5,
           0, 0, 131, PLAIN_NONE32 },
         { "a settle clears the last remainder", 8192,
-          "G1500 G24 R16 G200 S", 0, 0, 0, 2, PLAIN_NONE32 }
+          "G1500 G24 R16 G200 S", 0, 0, 0, 2, PLAIN_NONE32 },
+        { "a resized block takes from the top, which keeps 32", 256,
+          "G24 Z16,216", 0, 16, 216, 1, 224 },
+        { "the top would keep 16: the block is sought, and refused", 256,
+          "G24 Z16,217", 5, 0, 0, 1, 32 },
+        { "a block made shorter by 16 keeps its size, by 32 does not", 256,
+          "G104 Z16,88 Z16,72", 0, 16, 72, 67, 1 },
+        { "a binned chunk behind is taken in, its rest cached", 4096,
+          "G24 G1112 G24 R48 Z16,1000", 0, 16, 1000, 67 + 7, 1 },
+        { "a resize passes by a cached chunk of its size", 1024,
+          "G24 G40 R48 Z16,40", 0, 96, 40, 67 + 1, 1 },
+        { "a fast chunk right behind is found and joined", 2048,
+          "7G40 G24 G40 G24 R16 R64 R112 R160 R208 R256 R304 R384 Z352,40", 0,
+          352, 40, 67, 1 },
+        { "a block's P, cleared by the joining before it, stays clear", 432,
+          "8G0 G40 G0 R16 R48 R80 R112 R144 R176 R208 R240 R320 Z272,80", 0,
+          272, 88, 1, 400 },
+        { "a refused resize leaves the fast lists joined", 416,
+          "8G0 G40 G0 R16 R48 R80 R112 R144 R176 R208 R240 R320 Z272,80", 5,
+          0, 0, 131, PLAIN_NONE32 },
+        { "and may succeed the next time", 416,
+          "8G0 G40 G0 R16 R48 R80 R112 R144 R176 R208 R240 R320 2Z272,80", 0,
+          272, 88, 1, 352 },
+        { "null is granted, a length of 0 releases", 256, "Z0,24 Z16,0", 0, 0,
+          0, 67, 1 }
     };
 
     group("traces of places that are easy to get wrong");

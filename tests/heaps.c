@@ -17,10 +17,19 @@
 
 static struct plain_view view;
 
+/* What was done since. */
+static void tell_calls(const struct tally *before)
+{
+    remark(", %llu calls, %llu blocks resized, %llu of them moved",
+           (unsigned long long)(tally.calls - before->calls),
+           (unsigned long long)(tally.resized - before->resized),
+           (unsigned long long)(tally.moved - before->moved));
+}
+
 void sequences(const char *name, uint32_t from, uint32_t to,
                uint32_t rounds, uint32_t calls)
 {
-    uint64_t before = tally.calls;
+    struct tally before = tally;
 
     group(name);
     for (uint64_t i = 1; i <= rounds && !group_failed(); i++) {
@@ -33,7 +42,7 @@ void sequences(const char *name, uint32_t from, uint32_t to,
         random_calls(&m, calls);
         model_free(&m);
     }
-    remark(", %llu calls", (unsigned long long)(tally.calls - before));
+    tell_calls(&before);
 }
 
 /* Two heaps, call by call in turn: nothing is kept between calls. */
@@ -100,9 +109,71 @@ static void remainder_that_grows(struct model *m)
         model_grant(m, n);
 }
 
+/* Leaves a top of 32 to 112 bytes. */
+static void shorten_top(struct model *m)
+{
+    uint32_t left =
+        (uint32_t)m->p.ours.length - plain_word(m->p.ours.record, 1);
+    uint32_t keep = 32 + 16 * random_below(&m->p.r, 6);
+    if (left >= keep + 32)
+        model_grant(m, left - keep - 8);
+}
+
+/*
+ * Blocks, each with one of n behind it, most of which are then fast; the top
+ * is short. When the blocks are resized, seeking joins the fast chunks: it
+ * clears a block's own P, or finds what has become of the chunk behind it.
+ */
+static void grow_between_fast_chunks(struct model *m, uint32_t n,
+                                     uint32_t count)
+{
+    struct random *r = &m->p.r;
+    uint32_t filler[7], block[12], behind[12];
+
+    for (uint32_t i = 0; i < 7; i++)
+        filler[i] = model_grant(m, n);
+    for (uint32_t i = 0; i < count; i++) {
+        block[i] = model_grant(m, random_below(r, n + 40));
+        behind[i] = model_grant(m, n);
+    }
+    if (random_chance(r, 70))
+        shorten_top(m);
+    for (uint32_t i = 0; i < 7 && !group_failed(); i++)
+        model_release(m, filler[i]);
+    for (uint32_t i = 0; i < count && !group_failed(); i++)
+        if (random_chance(r, 80))
+            model_release(m, behind[i]);
+    for (uint32_t i = 0; i < 2 * count && !group_failed(); i++) {
+        uint32_t mem = block[random_below(r, count)];
+        if (mem == 0 || m->usable_at[mem / 16] == 0)
+            continue;
+        model_resize(m, mem, random_chance(r, 30) ? n
+                     : random_new_length(r, m->p.ours.arena,
+                                         (uint32_t)m->p.ours.length, mem));
+    }
+}
+
+void between_fast_chunks(uint32_t rounds)
+{
+    struct tally before = tally;
+
+    group("resizes of blocks between fast chunks");
+    for (uint64_t i = 1; i <= rounds && !group_failed(); i++) {
+        struct random r = { (7 << 20) + i };
+        uint32_t n = random_below(&r, 121), count = 2 + random_below(&r, 11);
+        uint32_t length = 7 * (n + 32) + count * (2 * n + 96) + 64;
+        struct pair p = pair_new((7 << 20) + i, r, (length + 15) & ~15u);
+        open_pair(&p);
+        struct model m = model_of(p);
+        grow_between_fast_chunks(&m, n, count);
+        model_free(&m);
+    }
+    tell_calls(&before);
+}
+
 void equal_sizes(uint32_t rounds)
 {
-    uint64_t before = tally.calls;
+    struct tally before = tally;
 
     group("many chunks of equal and of nearly equal sizes");
     for (uint64_t i = 1; i <= rounds && !group_failed(); i++) {
@@ -117,7 +188,7 @@ void equal_sizes(uint32_t rounds)
         }
         model_free(&m);
     }
-    remark(", %llu calls", (unsigned long long)(tally.calls - before));
+    tell_calls(&before);
 }
 
 /* ---- heaps that no sequence of calls made ---- */
@@ -136,7 +207,7 @@ static void hold_the_live(struct model *m)
 
 void sound_heaps(const char *name, uint32_t most, uint32_t rounds)
 {
-    uint64_t before = tally.calls;
+    struct tally before = tally;
 
     group(name);
     for (uint64_t i = 1; i <= rounds && !group_failed(); i++) {
@@ -161,7 +232,17 @@ void sound_heaps(const char *name, uint32_t most, uint32_t rounds)
             model_settle(&m);
         model_free(&m);
     }
-    remark(", %llu calls", (unsigned long long)(tally.calls - before));
+    tell_calls(&before);
+}
+
+static uint64_t any_number(struct pair *p)
+{
+    switch (random_below(&p->r, 4)) {
+    case 0: return extreme(random_below(&p->r, EXTREMES));
+    case 1: return random_below(&p->r, (uint32_t)p->ours.length) & ~15u;
+    case 2: return random_below(&p->r, 1100);
+    default: return 0;
+    }
 }
 
 /* Calls on a heap that may or may not be sound. */
@@ -170,18 +251,19 @@ static void calls_on_any(struct pair *p, uint32_t calls)
     for (uint32_t i = 0; i < calls && !group_failed(); i++) {
         bool sound = both_audits(p).kind == SECOND_SOUND;
         uint32_t drawn = random_below(&p->r, 10);
-        uint32_t near = random_below(&p->r, (uint32_t)p->ours.length);
-        enum call call = drawn < 4 ? GRANT : drawn < 8 ? RELEASE : SETTLE;
-        uint32_t any = random_below(&p->r, EXTREMES);
-        uint64_t number = drawn % 4 == 0 ? extreme(any)
-            : drawn % 4 == 1             ? near & ~15u
-            : drawn % 4 == 2             ? random_below(&p->r, 1100)
-                                         : 0;
-        if (sound)
+        enum call call = drawn < 3 ? GRANT : drawn < 6 ? RELEASE
+            : drawn < 9            ? RESIZE : SETTLE;
+        uint64_t number = any_number(p);
+        uint64_t n = call == RESIZE ? any_number(p) : number;
+        bool large = (call == GRANT || call == RESIZE) && n > 262144;
+        if (sound && call == RESIZE)
+            both_resize(p, number, n);
+        else if (sound)
             both(p, call, number);
+        else if (call == RESIZE)
+            refused_resize(p, number, n, large ? 2 : 3);
         else
-            refused(p, call, number,
-                    call == GRANT && number > 262144 ? 2 : 3);
+            refused(p, call, number, large ? 2 : 3);
     }
 }
 
@@ -379,6 +461,7 @@ void guards(uint32_t rounds)
             struct model m = model_of(p);
             while (m.p.calls < 60 && !group_failed())
                 random_call(&m);
+            give_back(&m.before);
             free(m.block);
             free(m.usable_at);
         } else {

@@ -15,6 +15,7 @@ struct model model_of(struct pair p)
     uint32_t length = (uint32_t)p.ours.length;
     size_t bytes = (length / 16 + 1) * sizeof *m.usable_at;
 
+    m.before = lend(length, 0);
     m.block = memory((length / 32 + 1) * sizeof *m.block);
     m.usable_at = memory(bytes);
     memset(m.usable_at, 0, bytes);
@@ -28,6 +29,7 @@ struct model model_of(struct pair p)
 void model_free(struct model *m)
 {
     pair_free(&m->p);
+    give_back(&m->before);
     free(m->block);
     free(m->usable_at);
 }
@@ -207,25 +209,27 @@ static void one_free_chunk_each(struct model *m)
 static void as_newly_opened(struct model *m)
 {
     struct lent fresh = lend(m->p.ours.length, 0x5a);
-    struct second_answer a = call_ours(&fresh, OPEN, 0);
+    struct second_answer a = call_ours(&fresh, OPEN, 0, 0);
     uint32_t granted[6] = { 0 };
 
     CHECK(a.no == 0 && same_record(&fresh, &m->p.ours),
           "seed %llu: settled without blocks, but the record is not the one "
           "of a newly opened arena",
           (unsigned long long)m->p.seed);
-    for (unsigned i = 0; i < 12 && !group_failed(); i++) {
-        enum call call = i < 6 ? GRANT : RELEASE;
-        uint64_t n = i < 6 ? random_request(m) : granted[(i * 5) % 6];
-        struct second_answer used = both(&m->p, call, n);
-        a = call_ours(&fresh, call, n);
+    for (unsigned i = 0; i < 18 && !group_failed(); i++) {
+        enum call call = i < 6 ? GRANT : i < 12 ? RESIZE : RELEASE;
+        uint32_t *block = &granted[i < 6 ? i : (i * 5) % 6];
+        uint64_t n = random_request(m), number = call == GRANT ? n : *block;
+        struct second_answer used = call == RESIZE
+            ? both_resize(&m->p, number, n) : both(&m->p, call, number);
+        a = call_ours(&fresh, call, number, n);
         CHECK(same_answer(used, a) && same_record(&fresh, &m->p.ours),
-              "seed %llu: %s %llu after a settle without blocks is not "
-              "answered as on a newly opened arena",
+              "seed %llu: %s %llu (%llu) after a settle without blocks is "
+              "not answered as on a newly opened arena",
               (unsigned long long)m->p.seed, call_name[call],
-              (unsigned long long)n);
-        if (i < 6)
-            granted[i] = used.mem;
+              (unsigned long long)number, (unsigned long long)n);
+        if (used.no == 0)
+            *block = used.mem;
     }
     give_back(&fresh);
     struct second_answer settled = both(&m->p, SETTLE, 0);
@@ -267,6 +271,87 @@ void model_release(struct model *m, uint64_t mem)
         let_go(m, mem);
 }
 
+/* Every held block has the bytes that it had, also after a refusal. */
+static void bytes_kept(const struct model *m, const char *call)
+{
+    for (uint32_t i = 0; i < m->blocks; i++)
+        CHECK(memcmp(m->p.ours.arena + m->block[i].mem,
+                     m->before.arena + m->block[i].mem,
+                     m->block[i].usable) == 0,
+              "seed %llu, call %u: a %s changed bytes of the block at %u",
+              (unsigned long long)m->p.seed, m->p.calls, call,
+              m->block[i].mem);
+}
+
+/* Refused for want of room it has sorted and joined, and nothing else. */
+static void resize_refused(const struct model *m, struct second_answer a)
+{
+    const struct lent *l = &m->p.ours;
+
+    CHECK(a.mem == 0 && a.usable == 0,
+          "seed %llu, call %u: a refused resize hands numbers back",
+          (unsigned long long)m->p.seed, m->p.calls);
+    CHECK(a.no == 5 ? memcmp(l->record + 8, m->before.record + 8, 129 * 4) == 0
+                    : same_arena(&m->before, l) && same_record(&m->before, l),
+          "seed %llu, call %u: a resize refused with %u wrote what it may not",
+          (unsigned long long)m->p.seed, m->p.calls, a.no);
+    bytes_kept(m, "refused resize");
+}
+
+/* The block takes its bytes along, up to the shorter of its lengths. */
+static void resized(struct model *m, uint32_t mem, uint64_t n,
+                    struct second_answer a)
+{
+    uint32_t old = m->usable_at[mem / 16];
+
+    CHECK(a.usable >= n && a.usable % 16 == 8
+              && (a.mem == mem || a.usable > old),
+          "seed %llu, call %u: resize %u %llu of %u bytes answered %u %u",
+          (unsigned long long)m->p.seed, m->p.calls, mem,
+          (unsigned long long)n, old, a.mem, a.usable);
+    let_go(m, mem);
+    bytes_kept(m, "resize");
+    hold(m, a.mem, a.usable);
+    if (group_failed())
+        return;
+    CHECK(memcmp(m->p.ours.arena + a.mem, m->before.arena + mem,
+                 a.usable < old ? a.usable : old) == 0,
+          "seed %llu, call %u: the block at %u, resized, lost bytes",
+          (unsigned long long)m->p.seed, m->p.calls, mem);
+    tally.resized++;
+    tally.moved += a.mem != mem;
+}
+
+/* Never made twice: a refused one may succeed the next time. */
+void model_resize(struct model *m, uint64_t mem, uint64_t n)
+{
+    bool held = holds(m, mem), none = mem != 0 && !held;
+
+    copy_lent(&m->before, &m->p.ours);
+    struct second_answer a = both_resize(&m->p, mem, n);
+    CHECK(n > 262144 ? a.no == 2 : none ? a.no == 4
+              : a.no == 0 || (a.no == 5 && (mem == 0 || n > 0)),
+          "seed %llu: resize %llu %llu, %s, answered %u",
+          (unsigned long long)m->p.seed, (unsigned long long)mem,
+          (unsigned long long)n, held ? "held" : "not held", a.no);
+    if (group_failed())
+        return;
+    if (a.no != 0) {
+        resize_refused(m, a);
+    } else if (held && n > 0) {
+        resized(m, (uint32_t)mem, n, a);
+    } else if (held) {
+        CHECK(a.mem == 0 && a.usable == 0,
+              "seed %llu: a resize to 0 hands numbers back",
+              (unsigned long long)m->p.seed);
+        let_go(m, mem);
+        bytes_kept(m, "resize to 0");
+    } else {
+        bytes_kept(m, "resize of null");
+        hold(m, a.mem, a.usable);
+    }
+}
+
 void model_settle(struct model *m)
 {
     struct second_answer a = both(&m->p, SETTLE, 0);
@@ -293,6 +378,22 @@ void grants_in_a_row(struct model *m)
             model_grant(m, n);
 }
 
+/* Mostly of a held block; else of null, or of what is none. */
+static void random_resize(struct model *m)
+{
+    struct random *r = &m->p.r;
+    uint64_t mem = random_chance(r, 50) ? 0 : random_wrong_mem(m);
+    uint64_t n = random_request(m);
+
+    if (m->blocks > 0 && random_chance(r, 90)) {
+        mem = random_held_mem(m);
+        if (random_chance(r, 60))
+            n = random_new_length(r, m->p.ours.arena,
+                                  (uint32_t)m->p.ours.length, (uint32_t)mem);
+    }
+    model_resize(m, mem, random_chance(r, 4) ? 0 : n);
+}
+
 void random_call(struct model *m)
 {
     struct random *r = &m->p.r;
@@ -308,6 +409,8 @@ void random_call(struct model *m)
         release_down_to(m, random_chance(r, 20) ? 0 : random_below(r, 8));
     else if (drawn < 82)
         grants_in_a_row(m);
+    else if (drawn < 350)
+        random_resize(m);
     else if (m->blocks == 0 || random_chance(r, m->grant_percent))
         model_grant(m, random_request(m));
     else

@@ -1,6 +1,7 @@
 /*
  * A pair with holders: which blocks were granted and not yet released, random
- * calls that keep to it, holders' writes, and demand 3 after each settle.
+ * calls that keep to it, holders' writes, the bytes that a resize keeps, and
+ * demand 3 after each settle.
  */
 #ifndef HOLDERS_H
 #define HOLDERS_H
@@ -15,6 +16,7 @@ struct held {
 
 struct model {
     struct pair p;
+    struct lent before;      /* the archive's heap before a resize */
     struct held *block;
     uint32_t blocks;
     uint32_t *usable_at;     /* by mem / 16: 0 where no block is held */
@@ -37,6 +39,7 @@ void random_calls(struct model *m, uint32_t calls);
 /* Calls that are held against who holds what; a settle against demand 3. */
 uint32_t model_grant(struct model *m, uint64_t n); /* the mem, or 0 */
 void model_release(struct model *m, uint64_t mem);
+void model_resize(struct model *m, uint64_t mem, uint64_t n);
 void model_settle(struct model *m);
 
 /* The same random bytes in both arenas. */

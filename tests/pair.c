@@ -6,8 +6,8 @@
 
 #include "heap.h"
 
-const char *const call_name[] = { "open", "grant", "release", "settle",
-                                  "audit" };
+const char *const call_name[] = { "open",   "grant",  "release",
+                                  "resize", "settle", "audit" };
 
 struct tally tally;
 
@@ -24,7 +24,7 @@ void *memory(size_t length)
 /* ---- one call on both ---- */
 
 struct second_answer call_ours(struct lent *l, enum call call,
-                               uint64_t number)
+                               uint64_t number, uint64_t n)
 {
     struct heap_answer a = { 0, 0, 0 };
     switch (call) {
@@ -38,6 +38,10 @@ struct second_answer call_ours(struct lent *l, enum call call,
         a = heap_release(l->arena, l->length, l->record, l->record_len,
                          number);
         break;
+    case RESIZE:
+        a = heap_resize(l->arena, l->length, l->record, l->record_len, number,
+                        n);
+        break;
     case SETTLE:
         a = heap_settle(l->arena, l->length, l->record, l->record_len);
         break;
@@ -48,12 +52,13 @@ struct second_answer call_ours(struct lent *l, enum call call,
 }
 
 struct second_answer call_theirs(struct lent *l, enum call call,
-                                 uint64_t number)
+                                 uint64_t number, uint64_t n)
 {
     switch (call) {
     case OPEN: return lent_open(l);
     case GRANT: return lent_grant(l, number);
     case RELEASE: return lent_release(l, number);
+    case RESIZE: return lent_resize(l, number, n);
     case SETTLE: return lent_settle(l);
     case AUDIT: break;
     }
@@ -82,10 +87,22 @@ bool is_sound(const struct lent *l)
     return same_fault(audit_ours(l), (struct second_fault){ 0, 0, 0 });
 }
 
+/* A call in words, for messages; good until the next one is told. */
+static const char *told(enum call call, uint64_t number, uint64_t n)
+{
+    static char text[64];
+    int used = snprintf(text, sizeof text, "%s %llu", call_name[call],
+                        (unsigned long long)number);
+    if (call == RESIZE)
+        snprintf(text + used, sizeof text - (size_t)used, " %llu",
+                 (unsigned long long)n);
+    return text;
+}
+
 /* Tells the first byte that differs, if one does. */
 static bool same_bytes(const struct pair *p, const char *buffer,
                        const uint8_t *ours, const uint8_t *theirs,
-                       size_t length, const char *call, uint64_t number)
+                       size_t length, const char *after, const char *call)
 {
     size_t at = 0;
     if (memcmp(ours, theirs, length) == 0)
@@ -93,19 +110,19 @@ static bool same_bytes(const struct pair *p, const char *buffer,
     while (ours[at] == theirs[at])
         at++;
     return CHECK(false,
-                 "seed %llu, call %u, arena of %zu, %s %llu: %s byte %zu is "
+                 "seed %llu, call %u, arena of %zu, %s%s: %s byte %zu is "
                  "0x%02x, the second program's 0x%02x",
-                 (unsigned long long)p->seed, p->calls, p->ours.length, call,
-                 (unsigned long long)number, buffer, at, ours[at], theirs[at]);
+                 (unsigned long long)p->seed, p->calls, p->ours.length, after,
+                 call, buffer, at, ours[at], theirs[at]);
 }
 
-static void compare_buffers(const struct pair *p, const char *call,
-                            uint64_t number)
+static void compare_buffers(const struct pair *p, const char *after,
+                            const char *call)
 {
     same_bytes(p, "record", p->ours.record, p->theirs.record,
-               p->ours.record_len, call, number);
+               p->ours.record_len, after, call);
     same_bytes(p, "arena", p->ours.arena, p->theirs.arena, p->ours.length,
-               call, number);
+               after, call);
 }
 
 struct second_fault both_audits(struct pair *p)
@@ -123,43 +140,63 @@ struct second_fault both_audits(struct pair *p)
     return theirs;
 }
 
-struct second_answer both(struct pair *p, enum call call,
-                          uint64_t number)
+static struct second_answer both_of(struct pair *p, enum call call,
+                                    uint64_t number, uint64_t n)
 {
-    struct second_answer ours = call_ours(&p->ours, call, number);
-    struct second_answer theirs = call_theirs(&p->theirs, call, number);
+    struct second_answer ours = call_ours(&p->ours, call, number, n);
+    struct second_answer theirs = call_theirs(&p->theirs, call, number, n);
+    const char *text = told(call, number, n);
 
     tally.calls++;
     p->calls++;
     tally.refused[theirs.no]++;
     CHECK(same_answer(ours, theirs),
-          "seed %llu, call %u, arena of %zu, %s %llu: answered %u %u %u, by "
-          "the second program %u %u %u",
-          (unsigned long long)p->seed, p->calls, p->ours.length,
-          call_name[call], (unsigned long long)number, ours.no, ours.mem,
-          ours.usable, theirs.no, theirs.mem, theirs.usable);
-    compare_buffers(p, call_name[call], number);
+          "seed %llu, call %u, arena of %zu, %s: answered %u %u %u, by the "
+          "second program %u %u %u",
+          (unsigned long long)p->seed, p->calls, p->ours.length, text,
+          ours.no, ours.mem, ours.usable, theirs.no, theirs.mem,
+          theirs.usable);
+    compare_buffers(p, "", text);
     both_audits(p);
-    compare_buffers(p, "audit after", number);
+    compare_buffers(p, "audit after ", text);
     return ours;
 }
 
+struct second_answer both(struct pair *p, enum call call, uint64_t number)
+{
+    return both_of(p, call, number, 0);
+}
+
+struct second_answer both_resize(struct pair *p, uint64_t mem, uint64_t n)
+{
+    return both_of(p, RESIZE, mem, n);
+}
+
 /* A call that must be refused with that number and write nothing. */
-void refused(struct pair *p, enum call call, uint64_t number,
-             uint32_t no)
+static void refused_of(struct pair *p, enum call call, uint64_t number,
+                       uint64_t n, uint32_t no)
 {
     struct lent before = lend(p->ours.length, 0);
     copy_lent(&before, &p->ours);
-    struct second_answer a = both(p, call, number);
+    struct second_answer a = both_of(p, call, number, n);
     CHECK(a.no == no && a.mem == 0 && a.usable == 0,
-          "seed %llu: %s %llu answered %u %u %u, not %u 0 0",
-          (unsigned long long)p->seed, call_name[call],
-          (unsigned long long)number, a.no, a.mem, a.usable, no);
+          "seed %llu: %s answered %u %u %u, not %u 0 0",
+          (unsigned long long)p->seed, told(call, number, n), a.no, a.mem,
+          a.usable, no);
     CHECK(same_arena(&before, &p->ours) && same_record(&before, &p->ours),
-          "seed %llu: %s %llu, refused with %u, wrote",
-          (unsigned long long)p->seed, call_name[call],
-          (unsigned long long)number, no);
+          "seed %llu: %s, refused with %u, wrote",
+          (unsigned long long)p->seed, told(call, number, n), no);
     give_back(&before);
+}
+
+void refused(struct pair *p, enum call call, uint64_t number, uint32_t no)
+{
+    refused_of(p, call, number, 0, no);
+}
+
+void refused_resize(struct pair *p, uint64_t mem, uint64_t n, uint32_t no)
+{
+    refused_of(p, RESIZE, mem, n, no);
 }
 
 /* ---- pairs ---- */

@@ -12,7 +12,7 @@
 #include "check.h"
 #include "random_heap.h"
 
-enum call { OPEN, GRANT, RELEASE, SETTLE, AUDIT };
+enum call { OPEN, GRANT, RELEASE, RESIZE, SETTLE, AUDIT };
 
 extern const char *const call_name[];
 
@@ -26,16 +26,20 @@ struct pair {
 /* What the whole run did. */
 extern struct tally {
     uint64_t calls, audits, refused[6], faults[7];
+    uint64_t resized, moved; /* blocks held by a model */
 } tally;
 
 /* Exactly that many bytes (one for none), or the program ends. */
 void *memory(size_t length);
 
-/* One call on one of the two; AUDIT is none of them. */
+/*
+ * One call on one of the two; AUDIT is none of them. The number is a grant's
+ * n, else a mem; a resize has its n beside it, which the others pass by.
+ */
 struct second_answer call_ours(struct lent *l, enum call call,
-                               uint64_t number);
+                               uint64_t number, uint64_t n);
 struct second_answer call_theirs(struct lent *l, enum call call,
-                                 uint64_t number);
+                                 uint64_t number, uint64_t n);
 struct second_fault audit_ours(const struct lent *l);
 bool same_answer(struct second_answer a, struct second_answer b);
 bool same_fault(struct second_fault a, struct second_fault b);
@@ -43,10 +47,12 @@ bool is_sound(const struct lent *l); /* by the archive's audit */
 
 /* One call on both, all bytes compared after it; the archive's answer. */
 struct second_answer both(struct pair *p, enum call call, uint64_t number);
+struct second_answer both_resize(struct pair *p, uint64_t mem, uint64_t n);
 struct second_fault both_audits(struct pair *p);
 
 /* As both, for a call that must be refused with no and write nothing. */
 void refused(struct pair *p, enum call call, uint64_t number, uint32_t no);
+void refused_resize(struct pair *p, uint64_t mem, uint64_t n, uint32_t no);
 
 struct pair pair_new(uint64_t seed, struct random r, size_t length);
 void pair_free(struct pair *p);

@@ -4,7 +4,7 @@
  *
  *     scripts FOLDER COUNT    writes FOLDER/1 .. FOLDER/COUNT
  *
- * The second program runs along, so that releases find live blocks.
+ * The second program runs along, so that releases and resizes find live blocks.
  */
 #include <stdio.h>
 #include <stdlib.h>
@@ -32,13 +32,20 @@ static void add(const char *bytes, size_t n)
     text_length += n;
 }
 
-/* A number, now and then with zeros in front, of at most 7 digits. */
+/* A blank and a number, now and then with zeros in front, of at most 7 digits. */
+static void add_number(struct random *r, uint32_t n)
+{
+    char number[16];
+    int digits = random_chance(r, 5) ? 1 + (int)random_below(r, 7) : 1;
+    add(number, (size_t)snprintf(number, sizeof number, " %0*u", digits,
+                                 (unsigned)n));
+}
+
 static void add_call(struct random *r, char letter, uint32_t n)
 {
-    char line[16];
-    int digits = random_chance(r, 5) ? 1 + (int)random_below(r, 7) : 1;
-    add(line, (size_t)snprintf(line, sizeof line, "%c %0*u\n", letter, digits,
-                               (unsigned)n));
+    add(&letter, 1);
+    add_number(r, n);
+    add("\n", 1);
 }
 
 static uint32_t request(struct random *r)
@@ -64,28 +71,55 @@ static void add_grant(struct random *r)
     add_call(r, 'G', n);
 }
 
-/* Mostly of a live block, else of null, of one released before, of any. */
-static void add_release(struct random *r)
+/* Mostly a live block, else null, one released before, any. */
+static uint32_t some_mem(struct random *r)
 {
     uint32_t at = random_below(r, live_count);
     uint32_t mem = random_chance(r, 50) ? 16 * random_below(r, length / 8)
                                         : random_below(r, 10000000);
-    if (live_count > 0 && random_chance(r, 90))
-        mem = live[at];
+    return live_count > 0 && random_chance(r, 90) ? live[at] : mem;
+}
+
+static void drop_live(uint32_t mem)
+{
+    uint32_t at = 0;
+    while (live[at] != mem)
+        at++;
+    live[at] = live[--live_count];
+}
+
+static void add_release(struct random *r)
+{
+    uint32_t mem = some_mem(r);
     struct second_answer a =
         second_release(arena, length, record, RECORD_BYTES, mem);
-    if (a.no == 0 && mem != 0) {
-        for (at = 0; live[at] != mem; at++)
-            ;
-        live[at] = live[--live_count];
-    }
+    if (a.no == 0 && mem != 0)
+        drop_live(mem);
     add_call(r, 'R', mem);
+}
+
+/* Now and then of null, now and then to length 0. */
+static void add_resize(struct random *r)
+{
+    uint32_t mem = random_chance(r, 5) ? 0 : some_mem(r);
+    uint32_t n = random_chance(r, 5) ? 0 : request(r);
+    struct second_answer a =
+        second_resize(arena, length, record, RECORD_BYTES, mem, n);
+    if (a.no == 0 && mem != 0)
+        drop_live(mem);
+    if (a.no == 0 && a.mem != 0)
+        live[live_count++] = a.mem;
+    add("Z", 1);
+    add_number(r, mem);
+    add_number(r, n);
+    add("\n", 1);
 }
 
 static void good_script(struct random *r)
 {
     uint32_t calls = random_below(r, CALLS_MOST);
     uint32_t releases = 20 + random_below(r, 50);
+    uint32_t resizes = random_below(r, 40);
     text_length = 0;
     live_count = 0;
     length = random_chance(r, 40) ? random_length(r, ARENA_MOST)
@@ -98,6 +132,8 @@ static void good_script(struct random *r)
             add("S\n", 2);
         } else if (random_chance(r, live_count > 0 ? releases : 5)) {
             add_release(r);
+        } else if (random_chance(r, live_count > 0 ? resizes : 5)) {
+            add_resize(r);
         } else {
             add_grant(r);
         }
@@ -126,8 +162,12 @@ static void insert_line(struct random *r)
         "\n", "G\n", "G \n", "G  24\n", "G\t24\n", "G 24 \n", "G 24\r\n",
         "S\r\n", "S 1\n", " S\n", "s\n", "g 24\n", "G 12345678\n",
         "R 00000000\n", "G -1\n", "G +1\n", "G 0x10\n", "A 256\n", "A 49153\n",
-        "A 262160\n", "A 0\n", "A 100\n", "Z 16 24\n", "# melt\n", "?\n",
-        "\377\n", "G \262\n", "R16\n", "G 1,0\n", "SS\n"
+        "A 262160\n", "A 0\n", "A 100\n", "# melt\n", "?\n",
+        "\377\n", "G \262\n", "R16\n", "G 1,0\n", "SS\n", "Z\n", "Z 16\n",
+        "Z 16 \n", "Z 16 24 \n", "Z  16 24\n", "Z 16  24\n", "Z 16 24 1\n",
+        "Z 12345678 1\n", "Z 1 12345678\n", "Z 0000001 00000024\n",
+        "Z 16 -1\n", "Z 16\t24\n", "Z 16 24\r\n", "z 16 24\n", "Z16 24\n",
+        "G 16 24\n"
     };
     const char *line = lines[random_below(r, sizeof lines / sizeof *lines)];
     insert(random_chance(r, 20) ? 0 : somewhere(r), line, strlen(line));
@@ -137,8 +177,9 @@ static void insert_long_line(struct random *r)
 {
     static char line[200000];
     size_t n = 10 + random_below(r, random_chance(r, 20) ? 199000 : 40);
+    const char *start = random_chance(r, 50) ? "G 1" : "Z 1 2";
     memset(line, random_chance(r, 50) ? '0' : ' ', n);
-    memcpy(line, "G 1", 3);
+    memcpy(line, start, strlen(start));
     line[n - 1] = '\n';
     insert(somewhere(r), line, n);
 }

@@ -48,6 +48,7 @@ void refused_shape(struct random *r, enum call call, size_t length,
     struct lent theirs = lend_shape(length, record_len);
     struct lent before = lend_shape(length, record_len);
     uint64_t number = extreme(random_below(r, EXTREMES));
+    uint64_t n = extreme(random_below(r, EXTREMES));
     struct second_answer a = { 1, 0, 0 };
     bool closes = call == OPEN && record_len == 1572;
 
@@ -61,8 +62,8 @@ void refused_shape(struct random *r, enum call call, size_t length,
               "audit of lengths %zu and %zu is not answered 1 0 0", length,
               record_len);
     } else {
-        a = call_ours(&ours, call, number);
-        call_theirs(&theirs, call, number);
+        a = call_ours(&ours, call, number, n);
+        call_theirs(&theirs, call, number, n);
         tally.calls++;
         tally.refused[1]++;
     }
@@ -132,13 +133,13 @@ void lengths_past_32_bits(void)
                 l.record_len = past + 1572;
             }
             uint32_t no = call == AUDIT ? audit_ours(&l).no
-                                        : call_ours(&l, call, 16).no;
+                                        : call_ours(&l, call, 16, 24).no;
             tally.calls += call != AUDIT;
             CHECK(no == 1, "%s of lengths %zu and %zu answered %u, not 1",
                   call_name[call], l.length, l.record_len, no);
         }
     struct lent l = { far, near.record, past + 64, 1572 };
-    CHECK(call_ours(&l, OPEN, 0).no == 1 && is_closed(near.record),
+    CHECK(call_ours(&l, OPEN, 0, 0).no == 1 && is_closed(near.record),
           "open of a length past 32 bits is not refused with 1");
     munmap(far, most);
     give_back(&near);
@@ -158,14 +159,36 @@ void closed_heaps(void)
               "the audit of a closed record does not name the record");
         refused(&p, GRANT, 0, 3);
         refused(&p, RELEASE, 0, 3);
+        refused_resize(&p, 0, 24, 3);
+        refused_resize(&p, 16, 24, 3);
+        refused_resize(&p, 16, 0, 3);
         refused(&p, SETTLE, 0, 3);
         refused(&p, GRANT, 262145, 2);
+        refused_resize(&p, 0, 262145, 2);
+        refused_resize(&p, 16, 262145, 2);
         open_pair(&p);
         pair_free(&p);
     }
 }
 
 /* ---- extreme numbers ---- */
+
+/* A block at 16, if it has room, and every pair of numbers that is refused. */
+static void extreme_resizes(size_t length)
+{
+    struct pair p = opened(600, length);
+    uint64_t live = both(&p, GRANT, 0).mem;
+
+    for (uint32_t i = 0; i < EXTREMES; i++)
+        for (uint32_t k = 0; k < EXTREMES && !group_failed(); k++) {
+            uint64_t mem = extreme(i), n = extreme(k);
+            if (n > 262144)
+                refused_resize(&p, mem, n, 2);
+            else if (mem != 0 && mem != live)
+                refused_resize(&p, mem, n, 4);
+        }
+    pair_free(&p);
+}
 
 void extreme_numbers(void)
 {
@@ -192,6 +215,10 @@ void extreme_numbers(void)
             plain_put(p.theirs.arena + 8, 8, 17);
             refused(&p, GRANT, n, n > 262144 ? 2 : 3);
             refused(&p, RELEASE, n, 3);
+            refused_resize(&p, n, 24, 3);
+            refused_resize(&p, 16, n, n > 262144 ? 2 : 3);
             pair_free(&p);
         }
+    for (unsigned i = 0; i < 6; i++)
+        extreme_resizes(length[i]);
 }

@@ -8,6 +8,7 @@
 #include <string.h>
 
 #include "heap.h"
+#include "plain.h"
 
 #define PAINT 0xa5
 
@@ -17,15 +18,17 @@ static _Alignas(16) uint8_t stack[4 * HEAP_STACK_BYTES];
 static struct {
     struct lent *heap;
     enum call call;
-    uint64_t number;
+    uint64_t number, n;
 } now;
+
+static struct plain_view view;
 
 static void the_call(void)
 {
     if (now.call == AUDIT)
         audit_ours(now.heap);
     else
-        call_ours(now.heap, now.call, now.number);
+        call_ours(now.heap, now.call, now.number, now.n);
 }
 
 /* x86-64: the stack pointer is kept in a register that the callee keeps. */
@@ -44,13 +47,30 @@ static void on_the_stack(void (*function)(void))
                        "cc");
 }
 
-static uint32_t taken(struct lent *heap, enum call call, uint64_t number)
+/* The mem of a live block, if the heap has one. */
+static uint32_t some_live(struct random *r, const struct lent *heap)
+{
+    uint32_t chosen = 0, seen = 0;
+    if (!is_sound(heap))
+        return 0;
+    plain_read(&view, heap->arena, (uint32_t)heap->length, heap->record);
+    for (uint32_t i = 0; i < view.tiles; i++)
+        if (view.tile[i].state == PLAIN_LIVE && random_below(r, ++seen) == 0)
+            chosen = view.tile[i].at + 16;
+    return chosen;
+}
+
+static uint32_t taken(struct random *r, struct lent *heap, enum call call)
 {
     size_t unused = 0;
 
     now.heap = heap;
     now.call = call;
-    now.number = number;
+    now.number = random_below(r, (uint32_t)heap->length);
+    now.n = random_chance(r, 10) ? 0
+                                 : random_below(r, (uint32_t)heap->length / 4);
+    if ((call == RELEASE || call == RESIZE) && random_chance(r, 80))
+        now.number = some_live(r, heap);
     memset(stack, PAINT, sizeof stack);
     on_the_stack(the_call);
     while (unused < sizeof stack && stack[unused] == PAINT)
@@ -72,8 +92,7 @@ void stack_taken(uint32_t rounds)
             damage_field(&p.r, p.ours.arena, (uint32_t)p.ours.length,
                          p.ours.record);
         for (unsigned call = AUDIT + 1; call-- > OPEN;) {
-            uint64_t number = random_below(&p.r, (uint32_t)p.ours.length);
-            uint32_t bytes = taken(&p.ours, call, number);
+            uint32_t bytes = taken(&p.r, &p.ours, call);
             most[call] = bytes > most[call] ? bytes : most[call];
             CHECK(bytes <= HEAP_STACK_BYTES,
                   "seed %llu: %s took %u bytes", (unsigned long long)i,

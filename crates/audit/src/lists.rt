@@ -21,7 +21,7 @@ pub fn list_fault(a: &[u8], r: &[u32], m: &mut [u8]) -> Audited
 {
     let mut fault = Audited::Sound;
     let mut i: u32 = 0;
-    'lists: while i < ALL_LISTS {
+    'lists: loop {
         let j = audit_empty_lists::skip(r, i);
         if j == ALL_LISTS {
             break;

@@ -1,5 +1,5 @@
 -- Runs of empty lists: a list is empty by its words, several are by all their words at once, and one run continues another. Assumes nothing.
-use mathlib.Core.Path.{_≡_, refl, sym, ap, _∙_, subst}
+use mathlib.Core.Path.{_≡_, refl, sym, _∙_, subst}
 use mathlib.Core.List.{List}
 use mathlib.Core.Bool.{Bool, true, false}
 use mathlib.Core.Logic.{⊎-elim}
@@ -114,10 +114,17 @@ skipped-cache r i j l s h e = skipped-one r i j (omega arith) s (cache-empty r j
 pub skipped-fast : (r : List ℕ) (i j : ℕ) → 64 ≤ j → j < 74 → Skipped r i j → getD r (fastHead (j - 64)) 0 ≡ none32 → Skipped r i (j + 1)
 skipped-fast r i j g l s h = skipped-one r i j (omega arith) s (fast-empty r j g l h)
 
-pub skipped-bin : (r : List ℕ) (i j b first last : ℕ) → 74 ≤ j → j < 200 → b ≡ j - 73 → first ≡ binFirst b → last ≡ binLast b → Skipped r i j
-    → getD r first 0 ≡ none32 → getD r last 0 ≡ none32 → Skipped r i (j + 1)
-skipped-bin r i j b first last g l e p q s h t =
-    skipped-one r i j l s (bin-empty r j g (ap (λ (n : ℕ). getD r n 0) (omega (arith, e, p)) ∙ h) (ap (λ (n : ℕ). getD r n 0) (omega (arith, e, q)) ∙ t))
+-- a bin is told by its own number, which is 73 below the list's
+pub skipped-no-bin : (r : List ℕ) (i b : ℕ) → 74 ≤ i → i ≤ 200 → b ≡ i - 73 → Skipped r i (b + 73)
+skipped-no-bin r i b g l e = let z : b + 73 ≡ i = omega (arith, g, e) in subst (λ (j : ℕ). Skipped r i j) (sym z) (skipped-none r i l)
+
+pub skipped-bin : (r : List ℕ) (i b first last : ℕ) → 1 ≤ b → b ≤ 126 → first ≡ binFirst b → last ≡ binLast b → Skipped r i (b + 73)
+    → getD r first 0 ≡ none32 → getD r last 0 ≡ none32 → Skipped r i (b + 1 + 73)
+skipped-bin r i b first last g l p q s h t =
+    let z : b + 73 - 73 ≡ b = omega arith in
+    let n : b + 73 + 1 ≡ b + 1 + 73 = omega arith in
+    let e = bin-empty r (b + 73) (omega (arith, g)) (rw (z, ← p) h) (rw (z, ← q) t) in
+    subst (λ (j : ℕ). Skipped r i j) n (skipped-one r i (b + 73) (omega (arith, l)) s e)
 
 -- several at once
 skipped-run : (r : List ℕ) (i j n : ℕ) → j + n ≤ 200 → Skipped r i j → ((k : ℕ) → k < n → Empty r (kindAt (j + k))) → Skipped r i (j + n)
@@ -132,9 +139,15 @@ skipped-caches r i j l s h e =
     skipped-run r i j 8 (omega (arith, l)) s
     (λ k q. cache-empty r (j + k) (omega (arith, l, q)) (rw (← add-assoc 3 j k) (h k q)) (rw (← add-assoc 67 j k) (e k q)))
 
-pub skipped-four : (r : List ℕ) (i j f : ℕ) → 74 ≤ j → j + 4 ≤ 200 → f ≡ binFirst (j - 73) → Skipped r i j → AllFrom r f 8 none32 → Skipped r i (j + 4)
-skipped-four r i j f g l e s h =
-    skipped-run r i j 4 (omega (arith, l)) s (λ k q.
-    let first : f + 2 * k ≡ binFirst (j + k - 73) = omega (arith, e, g) in
-    let last : f + (2 * k + 1) ≡ binLast (j + k - 73) = omega (arith, e, g) in
-    bin-empty r (j + k) (omega (arith, g)) (rw first at (h (2 * k) (omega (arith, q)))) (rw last at (h (2 * k + 1) (omega (arith, q)))))
+pub skipped-fasts : (r : List ℕ) (i : ℕ) → i ≡ 64 → AllFrom r (fastHead 0) 8 none32 → Skipped r i (i + 8)
+skipped-fasts r i e h = skipped-run r i i 8 (omega (arith, e)) (skipped-none r i (omega (arith, e))) (λ k q.
+    let z : fastHead 0 + k ≡ fastHead (i + k - 64) = omega (arith, e) in
+    fast-empty r (i + k) (omega (arith, e)) (omega (arith, e, q)) (rw z at (h k q)))
+
+pub skipped-four : (r : List ℕ) (i b f : ℕ) → 1 ≤ b → b + 4 ≤ 127 → f ≡ binFirst b → Skipped r i (b + 73) → AllFrom r f 8 none32 → Skipped r i (b + 4 + 73)
+skipped-four r i b f g l e s h =
+    let n : b + 73 + 4 ≡ b + 4 + 73 = omega arith in
+    subst (λ (j : ℕ). Skipped r i j) n (skipped-run r i (b + 73) 4 (omega (arith, l)) s (λ k q.
+    let first : f + 2 * k ≡ binFirst (b + 73 + k - 73) = omega (arith, e) in
+    let last : f + (2 * k + 1) ≡ binLast (b + 73 + k - 73) = omega (arith, e) in
+    bin-empty r (b + 73 + k) (omega (arith, g)) (rw first at (h (2 * k) (omega (arith, q)))) (rw last at (h (2 * k + 1) (omega (arith, q))))))

@@ -5,20 +5,20 @@ ghost use Prim.Native.Nat.{_+_, _≤_};
 ghost use lib.ListN.{length};
 ghost use Rattle.sizes.specs.Limits.{none32};
 ghost use Rattle.audit_empty_lists.specs.Skips.{fourAnd, fourOr, AllFrom, Skipped};
-use sizes::ALL_LISTS;
 use sizes::BEFORE_BINS;
 use sizes::BINS_FROM;
 use sizes::CACHE_COUNTS;
 use sizes::CACHE_HEADS;
 use sizes::FAST_FROM;
 use sizes::FAST_HEADS;
+use sizes::LAST_BIN;
 use sizes::NONE32;
 use sizes::bin_first;
 use sizes::bin_last;
 use sizes::bin_of_list;
 
-// From here on fewer than four lists are left, and fewer than eight cache lists: ALL_LISTS less 3, FAST_FROM less 7.
-const LAST_BINS: u32 = 197;
+// From here on fewer than four bins are left, and fewer than eight cache lists: LAST_BIN less 2, FAST_FROM less 7.
+const LAST_BINS: usize = 124;
 
 const LAST_CACHES: u32 = 57;
 
@@ -58,35 +58,34 @@ fn skip_bins(r: &[u32], i: u32) -> u32
     requires { ⌜ (length (now r) ≡ 393) × (74 ≤ i) × (i ≤ 200) ⌝ }
     ensures { λ j. ⌜ Skipped (now (r .entry)) i j ⌝ }
 {
-    let mut j = i;
-    while j < LAST_BINS {
-        if !eight_none(r, bin_first((j - BEFORE_BINS) as usize)) {
+    let mut b = bin_of_list(i);
+    while b < LAST_BINS {
+        if !eight_none(r, bin_first(b)) {
             break;
         }
-        j += 4;
+        b += 4;
     }
-    skip_one_by_one(r, j)
+    skip_one_by_one(r, b) as u32 + BEFORE_BINS
 }
 
-// The same, bin by bin.
-fn skip_one_by_one(r: &[u32], i: u32) -> u32
-    requires { ⌜ (length (now r) ≡ 393) × (74 ≤ i) × (i ≤ 200) ⌝ }
-    ensures { λ j. ⌜ Skipped (now (r .entry)) i j ⌝ }
+// The same, bin by bin, in numbers of bins: from bin i on, a bin or the number after the last.
+fn skip_one_by_one(r: &[u32], i: usize) -> usize
+    requires { ⌜ (length (now r) ≡ 393) × (1 ≤ i) × (i ≤ 127) ⌝ }
+    ensures { λ b. ⌜ Skipped (now (r .entry)) (i + 73) (b + 73) ⌝ }
 {
-    let mut j = i;
-    while j < ALL_LISTS {
-        let b = bin_of_list(j);
+    let mut b = i;
+    while b <= LAST_BIN {
         let first = bin_first(b);
         if r[first] != NONE32 {
-            return j;
+            return b;
         }
         let last = bin_last(b);
         if r[last] != NONE32 {
-            return j;
+            return b;
         }
-        j += 1;
+        b += 1;
     }
-    j
+    b
 }
 
 // The same where i is a fast list's or a bin's.
@@ -104,6 +103,19 @@ fn skip_fast(r: &[u32], i: u32) -> u32
     skip_bins(r, j)
 }
 
+// The same; the first eight fast lists, whose words stand in a row, at once.
+fn skip_eight_fast(r: &[u32], i: u32) -> u32
+    requires { ⌜ (length (now r) ≡ 393) × (64 ≤ i) × (i ≤ 200) ⌝ }
+    ensures { λ j. ⌜ Skipped (now (r .entry)) i j ⌝ }
+{
+    if i == FAST_FROM {
+        if eight_none(r, FAST_HEADS) {
+            return skip_fast(r, i + 8);
+        }
+    }
+    skip_fast(r, i)
+}
+
 // The same, cache list by cache list, where i may be any list's.
 fn skip_caches(r: &[u32], i: u32) -> u32
     requires { ⌜ (length (now r) ≡ 393) × (i ≤ 200) ⌝ }
@@ -119,14 +131,18 @@ fn skip_caches(r: &[u32], i: u32) -> u32
         }
         j += 1;
     }
-    skip_fast(r, j)
+    skip_eight_fast(r, j)
 }
 
-// The first list from number i on that is not empty, or ALL_LISTS. Eight cache lists at a time, while there are eight.
+// The first list from number i on that is not empty, or ALL_LISTS. From a bin on there are bins alone; before, eight cache lists at a time, while there are
+// eight.
 pub fn skip(r: &[u32], i: u32) -> u32
     requires { ⌜ (length (now r) ≡ 393) × (i ≤ 200) ⌝ }
     ensures { λ j. ⌜ Skipped (now (r .entry)) i j ⌝ }
 {
+    if BINS_FROM <= i {
+        return skip_bins(r, i);
+    }
     let mut j = i;
     while j < LAST_CACHES {
         if !eight_none(r, CACHE_HEADS + (j as usize)) {

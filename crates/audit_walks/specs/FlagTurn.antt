@@ -114,6 +114,19 @@ raw p v y q s b = go (eqb q 0) (eqb p 0) refl
     go false true e = refl
     go false false e = refl
 
-pub flag-seen : (w : List ℕ) (o x y p b q s : ℕ) (v : Bool) → x ≡ getD w (sizeWord o) 0 → p ≡ x % 16 → y ≡ getD w (prevWord o) 0 → v ≡ flagOk (tile 0 p y) q s b
-    → v ≡ flagOk (tileAt w o) q s b
-flag-seen w o x y p b q s v e g f h = h ∙ rw (g, e, f) (raw (lowAt w o) (getD w (prevWord o) 0) (sizeAt w o) q s b)
+-- the tiles are good, so that P is all of a size word's low bits
+pub low-here : (w m : List ℕ) (top o q s : ℕ) → FlagIn w m top o q s → lowAt w o ≤ 1
+low-here w m top o q s i = go (i .ts) (i .tiles)
+  where
+    go : (ts : List Tile) → TilesOk w o ts → lowAt w o ≤ 1
+    go [] k = k .low
+    go (t ∷ ts) k = let d : lowAt w o ≡ t .p = ap (λ (z : Tile). z .p) (tile-read w o t ts k) in omega (arith, d, k .sizes .2)
+
+pub low-top : (w : List ℕ) (top : ℕ) → Flagging w top → lowAt w top ≤ 1
+low-top w top k = subst (λ (y : ℕ). lowAt w y ≤ 1) (sym (k .atTop)) (k .tiles .low)
+
+pub flag-seen : (w : List ℕ) (o x y p b q s : ℕ) (v : Bool) → lowAt w o ≤ 1 → x ≡ getD w (sizeWord o) 0 → p ≡ x % 2 → y ≡ getD w (prevWord o) 0
+    → v ≡ flagOk (tile 0 p y) q s b → v ≡ flagOk (tileAt w o) q s b
+flag-seen w o x y p b q s v l e g f h =
+    let z : p ≡ lowAt w o = omega (arith, l, e, g) in
+    h ∙ rw (z, f) (raw (lowAt w o) (getD w (prevWord o) 0) (sizeAt w o) q s b)

@@ -1,6 +1,7 @@
 // Flags, chunk by chunk: P is clear exactly if the chunk before is in a bin, and the previous size is then its size; no binned chunk touches another or the
 // top; chunk 0 has P set. Assumes nothing.
 ghost use mathlib.Core.Path.{_≡_};
+ghost use Prim.Native.Nat.{_%_};
 ghost use Rattle.machine.specs.Heap.{tile};
 ghost use Rattle.machine.specs.Audit.{flagOk};
 ghost use Rattle.le.specs.Arena.{arenaWords};
@@ -11,6 +12,7 @@ use chunk_fields::note_at;
 use chunk_fields::size_word_at;
 use machine::Audited;
 use sizes::Chunk;
+use sizes::SizeWord;
 
 // p, prev: its P and previous size; u: the mark of the chunk before, s: its size; v: the mark of this one.
 pub fn flag_ok(p: u64, prev: u64, u: u8, s: u64, v: u8) -> bool
@@ -31,6 +33,13 @@ pub fn flag_ok(p: u64, prev: u64, u: u8, s: u64, v: u8) -> bool
     true
 }
 
+// P alone: of a good tile bits 1 to 3 are clear.
+fn p_of(x: SizeWord) -> u64
+    ensures { λ p. ⌜ p ≡ x .0 % 2 ⌝ }
+{
+    x.0 % 2
+}
+
 // The first wrong flag, or sound. u: the mark of the chunk before, s: its size; the top counts as binned.
 pub fn flag_fault(a: &[u8], top: Chunk, m: &[u8]) -> Audited
     requires { ⌜ Bytes (now a) (now m) × Flagging (arenaWords (now a)) (top .0) ⌝ }
@@ -43,7 +52,7 @@ pub fn flag_fault(a: &[u8], top: Chunk, m: &[u8]) -> Audited
     while o < e {
         let x = size_word_at(a, Chunk(o as u64));
         let v = m[o / 16];
-        if !flag_ok(x.low(), note_at(a, Chunk(o as u64)), u, s, v) {
+        if !flag_ok(p_of(x), note_at(a, Chunk(o as u64)), u, s, v) {
             return Audited::Flag(o as u32);
         }
         u = v;
@@ -51,7 +60,7 @@ pub fn flag_fault(a: &[u8], top: Chunk, m: &[u8]) -> Audited
         o += s as usize;
     }
     let y = size_word_at(a, top);
-    if !flag_ok(y.low(), note_at(a, top), u, s, BINNED) {
+    if !flag_ok(p_of(y), note_at(a, top), u, s, BINNED) {
         let at = e as u32;
         return Audited::Flag(at);
     }

@@ -1,13 +1,14 @@
--- Numbers written as bytes and read again are cut to their width, and bytes are below 256. Digits do not see what lies above them. One law for every width.
--- Assumes nothing.
+-- Numbers written as bytes and read again are cut to their width, and bytes are below 256. Digits do not see what lies above them. A byte is a digit of its
+-- word. One law for every width. Assumes nothing.
 use mathlib.Core.Path.{_≡_, refl, sym, ap, _∙_}
 use mathlib.Core.List.{List, [], _∷_, _++_, map}
 use Prim.Native.Nat.{ℕ, zero, suc, _+_, _*_, _/_, _%_, _^_, _<_}
-use native.Mathlib.Nat.{pow-succ', mul-assoc, div-add-mod, mod-lt, zero-mod}
+use native.Mathlib.Nat.{pow-succ', mul-suc, mul-zero, mul-assoc, div-add-mod, mod-lt, zero-mod, not-suc-le-zero, le-of-suc-le-suc}
 use native.Mathlib.Omega.{arith}
-use lib.ListN.{length, getD, length-map, List·getD-map}
+use lib.ListN.{length, getD, length-map, List·getD-map, List·getD-append}
+use lib.Seq.{getD-append-add}
 use Rattle.le.specs.Number.{words, digits, bytes}
-use Rattle.le.specs.WordsLaws.{words-bytes}
+use Rattle.le.specs.WordsLaws.{length-digits, words-bytes}
 use Rattle.le.specs.Arena.{arenaWords}
 use Rattle.le.specs.ArenaLaws.{arenaWords-bytes}
 
@@ -51,6 +52,25 @@ words-cut n m ws e =
 
 pub arenaWords-cut : (ws : List ℕ) → arenaWords (bytes 8 ws) ≡ cut 8 ws
 arenaWords-cut ws = ap arenaWords (bytes-cut 8 ws) ∙ arenaWords-bytes (cut 8 ws) (cut-small 8 ws)
+
+-- ---- a byte is a digit of its word, and equal words have equal bytes, wherever they stand
+bytes-at : (n : ℕ) (vs : List ℕ) (i j : ℕ) → i < length vs → j < n → getD (bytes n vs) (n * i + j) 0 ≡ getD (digits n (getD vs i 0)) j 0
+unfolding bytes
+bytes-at n [] i j h k = absurd (not-suc-le-zero h)
+bytes-at n (v ∷ vs) zero j h k =
+    let e : n * 0 + j ≡ j = omega (arith, mul-zero n) in
+    ap (λ (x : ℕ). getD (digits n v ++ bytes n vs) x 0) e ∙ List·getD-append (digits n v) (bytes n vs) 0 j (omega (arith, length-digits n v))
+bytes-at n (v ∷ vs) (suc i) j h k =
+    let e : n * suc i + j ≡ length (digits n v) + (n * i + j) = omega (arith, mul-suc n i, length-digits n v) in
+    ap (λ (x : ℕ). getD (digits n v ++ bytes n vs) x 0) e ∙ getD-append-add (digits n v) (bytes n vs) (n * i + j) 0 ∙ bytes-at n vs i j (le-of-suc-le-suc h) k
+
+pub byte-same : (v w : List ℕ) (p q : ℕ) → p % 8 ≡ q % 8 → p / 8 < length v → q / 8 < length w → getD v (p / 8) 0 ≡ getD w (q / 8) 0
+    → getD (bytes 8 v) p 0 ≡ getD (bytes 8 w) q 0
+byte-same v w p q m i j e =
+    let at : 8 * (p / 8) + p % 8 ≡ p = omega arith in
+    let at′ : 8 * (q / 8) + p % 8 ≡ q = omega arith in
+    ap (λ (x : ℕ). getD (bytes 8 v) x 0) (sym at) ∙ bytes-at 8 v (p / 8) (p % 8) i (omega arith) ∙ ap (λ (x : ℕ). getD (digits 8 x) (p % 8) 0) e
+    ∙ sym (bytes-at 8 w (q / 8) (p % 8) j (omega arith)) ∙ ap (λ (x : ℕ). getD (bytes 8 w) x 0) at′
 
 -- ---- bytes are below 256
 digits-small : (n v i : ℕ) → getD (digits n v) i 0 < 256

@@ -18,15 +18,16 @@ use Rattle.machine.specs.Heap.{Heap, opened, sizeOf, live?}
 use Rattle.machine.specs.Writes.{size, Ran, ran, heapOf, writes}
 use Rattle.machine.specs.Release.{release, settle}
 use Rattle.machine.specs.Grant.{grant}
+use Rattle.machine.specs.Resize.{resize}
 use Rattle.machine.specs.Audit.{sound?, auditOf}
-use Rattle.machine.specs.Calls.{After, after, left, refused, arenaAllowed?, shape?, wordsOf, heapIn, onSound, closedRecord, openCall, granted, grantCall, done, releaseCall, settleCall}
+use Rattle.machine.specs.Calls.{After, after, left, refused, arenaAllowed?, shape?, wordsOf, heapIn, closedRecord, openCall, granted, grantCall, done, releaseCall, resizeCall, settleCall}
 use Rattle.machine.specs.declared.{Got.Got, Got.the-variants.At, Got.the-variants.Nothing}
 use Rattle.machine.specs.declared.Refusal.the-variants as R
 use Rattle.machine.specs.declared.Answer.the-variants.{Done, Granted, Refused}
 use Rattle.sound.specs.Tiles.{lt-or-le}
 use Rattle.sound.specs.Moves.{answerOf}
 use Rattle.sound.specs.Release.{both-true}
-use Rattle.calls.specs.Ways.{on-sound, grant-request, grant-unsound, release-unsound, release-null, release-dead, settle-unsound}
+use Rattle.calls.specs.Ways.{on-sound, request-sound, grant-request, grant-unsound, release-unsound, release-null, release-dead, release-live, resize-null, resize-zero, resize-request, resize-unsound, resize-dead, resize-live, settle-unsound}
 use Rattle.calls.specs.Results.{Lent, SoundIn, UnsoundIn, LiveMem}
 use Rattle.calls.specs.Left.{lent-shape}
 
@@ -63,12 +64,19 @@ module _ (a r : List ℕ) (L : Lent a r) (P : After → Type 0) where
   good : shape? a r ≡ true
   good = lent-shape a r L .1
 
+  -- the mem is a live block's or not
+  live-or-not : {B : Type 0} (m : ℕ) → (LiveMem a r m → both (leb 16 m) (live? (heapIn a r) (m - 16)) ≡ true → B)
+      → ((LiveMem a r m → ⊥) → both (leb 16 m) (live? (heapIn a r) (m - 16)) ≡ false → B) → B
+  live-or-not {B} m f g = go (both (leb 16 m) (live? (heapIn a r) (m - 16))) refl
+    where
+      go : (t : Bool) → both (leb 16 m) (live? (heapIn a r) (m - 16)) ≡ t → B
+      go true e = let p = both-true (leb 16 m) (live? (heapIn a r) (m - 16)) e in f (leb-true 16 m (p .0), p .1) e
+      go false e =
+          g (λ v. absurd (let q : true ≡ false = sym (both-live (heapIn a r) m (v .0) (v .1)) ∙ e in let z : _≡_ {A = ℕ} 0 1 = cc in omega arith)) e
+
   grant-called : (n : ℕ) → n ≤ 262144 → SoundIn a r → granted a (grant (need n) (heapIn a r)) ≡ grantCall a r n
   unfolding grantCall
-  grant-called n l S =
-      on-sound a r (λ h. granted a (grant (need n) h)) good S
-      ∙ ap (λ (t : Bool). elim t [ true ↦ refused a r R.Request | false ↦ onSound a r (λ h. granted a (grant (need n) h)) ])
-      (sym (ap (λ (t : Bool). both t (ltb mostRequest n)) good ∙ le-ltb mostRequest n l))
+  grant-called n l S = request-sound a r n (λ h. granted a (grant (need n) h)) good (le-ltb mostRequest n l) S
 
   pub grant-cases : (n : ℕ) → (262144 < n → P (after a r (Refused R.Request))) → (UnsoundIn a r → P (after a r (Refused R.Unsound)))
       → (n ≤ 262144 → SoundIn a r → answerOf (grant (need n) (heapIn a r)) ≡ Nothing
@@ -83,19 +91,6 @@ module _ (a r : List ℕ) (L : Lent a r) (P : After → Type 0) where
       (λ U. subst P (grant-unsound a r n good (le-ltb mostRequest n l) U) (unsound U)))
       (lt-or-le 262144 n)
 
-  release-called : (m : ℕ) → SoundIn a r → (m ≡ 0 → ⊥) → both (leb 16 m) (live? (heapIn a r) (m - 16)) ≡ true → done a (release (m - 16) (heapIn a r)) ≡ releaseCall a r m
-  unfolding releaseCall
-  release-called m S z v =
-      ap (λ (t : Bool). elim t [ true ↦ done a (release (m - 16) (heapIn a r)) | false ↦ refused a r R.NotLive ]) (sym v)
-      ∙ ap (λ (t : Bool). elim t [
-        | true ↦ after a r Done
-        | false ↦ elim (both (leb 16 m) (live? (heapIn a r) (m - 16))) [ true ↦ done a (release (m - 16) (heapIn a r)) | false ↦ refused a r R.NotLive ]
-      ]) (sym (ne-eqb m 0 z))
-      ∙ on-sound a r (λ h. elim (eqb m 0) [
-        | true ↦ after a r Done
-        | false ↦ elim (both (leb 16 m) (live? h (m - 16))) [ true ↦ done a (release (m - 16) h) | false ↦ refused a r R.NotLive ]
-      ]) good S
-
   pub release-cases : (m : ℕ) → (UnsoundIn a r → P (after a r (Refused R.Unsound))) → (SoundIn a r → m ≡ 0 → P (after a r Done))
       → (SoundIn a r → (m ≡ 0 → ⊥) → (LiveMem a r m → ⊥) → P (after a r (Refused R.NotLive)))
       → (SoundIn a r → LiveMem a r m → P (left a (heapOf (release (m - 16) (heapIn a r))) (writes (release (m - 16) (heapIn a r))) Done))
@@ -104,17 +99,40 @@ module _ (a r : List ℕ) (L : Lent a r) (P : After → Type 0) where
       sound-or-not a r
       (λ S. ⊎-elim
       (λ z. subst P (release-null a r m good S (eq-eqb m 0 z)) (null S z))
-      (λ z. go S z (both (leb 16 m) (live? (heapIn a r) (m - 16))) refl)
+      (λ z. live-or-not m
+      (λ v e. subst P (release-live a r m good S (ne-eqb m 0 z) e) (done-case a (release (m - 16) (heapIn a r)) P (live S v)))
+      (λ v e. subst P (release-dead a r m good S (ne-eqb m 0 z) e) (dead S z v)))
       (eq? m 0))
       (λ U. subst P (release-unsound a r m good U) (unsound U))
+
+  pub resize-cases : (m n : ℕ) → (m ≡ 0 → P (grantCall a r n)) → ((m ≡ 0 → ⊥) → n ≡ 0 → P (releaseCall a r m))
+      → ((m ≡ 0 → ⊥) → 262144 < n → P (after a r (Refused R.Request))) → ((m ≡ 0 → ⊥) → n ≤ 262144 → UnsoundIn a r → P (after a r (Refused R.Unsound)))
+      → ((m ≡ 0 → ⊥) → n ≤ 262144 → SoundIn a r → (LiveMem a r m → ⊥) → P (after a r (Refused R.NotLive)))
+      → (1 ≤ n → n ≤ 262144 → SoundIn a r → LiveMem a r m → answerOf (resize (m - 16) (need n) (heapIn a r)) ≡ Nothing
+      → P (left a (heapOf (resize (m - 16) (need n) (heapIn a r))) (writes (resize (m - 16) (need n) (heapIn a r))) (Refused R.NoRoom)))
+      → (1 ≤ n → n ≤ 262144 → SoundIn a r → LiveMem a r m → (c : ℕ) → answerOf (resize (m - 16) (need n) (heapIn a r)) ≡ At c
+      → P (left a (heapOf (resize (m - 16) (need n) (heapIn a r))) (writes (resize (m - 16) (need n) (heapIn a r)))
+      (Granted (c + 16) (usable (sizeOf (heapOf (resize (m - 16) (need n) (heapIn a r))) c)))))
+      → P (resizeCall a r m n)
+  resize-cases m n null zero large unsound dead none at = ⊎-elim
+      (λ z. subst P (resize-null a r m n (eq-eqb m 0 z)) (null z))
+      (λ z. ⊎-elim
+      (λ k. subst P (resize-zero a r m n (ne-eqb m 0 z) (eq-eqb n 0 k)) (zero z k))
+      (λ k. ⊎-elim
+      (λ l. subst P (resize-request a r m n (ne-eqb m 0 z) (ne-eqb n 0 k) good (lt-ltb mostRequest n l)) (large z l))
+      (λ l. sound-or-not a r
+      (λ S. live-or-not m
+      (λ v e.
+      subst P (resize-live a r m n (ne-eqb m 0 z) (ne-eqb n 0 k) good (le-ltb mostRequest n l) S e)
+      (got-cases a (resize (m - 16) (need n) (heapIn a r)) P (none (some k) l S v) (at (some k) l S v)))
+      (λ v e. subst P (resize-dead a r m n (ne-eqb m 0 z) (ne-eqb n 0 k) good (le-ltb mostRequest n l) S e) (dead z l S v)))
+      (λ U. subst P (resize-unsound a r m n (ne-eqb m 0 z) (ne-eqb n 0 k) good (le-ltb mostRequest n l) U) (unsound z l U)))
+      (lt-or-le 262144 n))
+      (eq? n 0))
+      (eq? m 0)
     where
-      go : SoundIn a r → (m ≡ 0 → ⊥) → (t : Bool) → both (leb 16 m) (live? (heapIn a r) (m - 16)) ≡ t → P (releaseCall a r m)
-      go S z true e =
-          let p = both-true (leb 16 m) (live? (heapIn a r) (m - 16)) e in
-          subst P (release-called m S z e) (done-case a (release (m - 16) (heapIn a r)) P (live S (leb-true 16 m (p .0), p .1)))
-      go S z false e =
-          subst P (release-dead a r m good S (ne-eqb m 0 z) e)
-          (dead S z (λ v. absurd (let q : true ≡ false = sym (both-live (heapIn a r) m (v .0) (v .1)) ∙ e in let z : _≡_ {A = ℕ} 0 1 = cc in omega arith)))
+      some : (n ≡ 0 → ⊥) → 1 ≤ n
+      some k = ⊎-elim (λ l. absurd (k (omega arith))) (λ l. l) (lt-or-le n 1)
 
   settle-called : SoundIn a r → done a (settle (heapIn a r)) ≡ settleCall a r
   unfolding settleCall

@@ -15,8 +15,7 @@ use Rattle.sizes.specs.Limits.{mostRequest, recordBytes, unsorted}
 use Rattle.sizes.specs.Sizes.{need, usable}
 use Rattle.sizes.specs.SizesLaws.{NeedBounds, need-bounds}
 use Rattle.machine.specs.Lists.{cnt}
-use Rattle.machine.specs.Count.{ind-same}
-use Rattle.machine.specs.Heap.{Heap, stack, bin, opened, topOf, starts, sizeOf, live?}
+use Rattle.machine.specs.Heap.{Heap, stack, bin, opened, starts, sizeOf, live?}
 use Rattle.machine.specs.Writes.{size, Ran, does, heapOf, writes}
 use Rattle.machine.specs.Release.{release, settle}
 use Rattle.machine.specs.Grant.{grant}
@@ -30,9 +29,8 @@ use Rattle.machine.specs.declared.Answer.the-variants.{Done, Granted, Refused}
 use Rattle.machine.specs.declared.Audited.{Audited}
 use Rattle.machine.specs.declared.Audited.the-variants as A
 use Rattle.sound.specs.Relation.{Loose, Good, Sound}
-use Rattle.sound.specs.Tiles.{start}
-use Rattle.sound.specs.Frames.{Starts, starts-all, apply-length}
-use Rattle.sound.specs.Edits.{tiled-tiles, size-32}
+use Rattle.sound.specs.Frames.{starts-all, apply-length}
+use Rattle.sound.specs.Edits.{size-32}
 use Rattle.sound.specs.Spares.{clear-of}
 use Rattle.sound.specs.Moves.{answerOf}
 use Rattle.sound.specs.Ends.{Ends}
@@ -42,9 +40,9 @@ use Rattle.sound.specs.Unsorted.{unsorted-few}
 use Rattle.sound.specs.Live.{But, Gives, live-loose, loose-live, release-goes, settle-stays, grant-gives, grant-refused}
 use Rattle.audit.specs.Exact.{arena-words, audit-good}
 use Rattle.calls.specs.Ways.{allowed-true, grant-shape, grant-request, grant-unsound, release-shape, release-unsound, settle-shape, settle-unsound}
-use Rattle.calls.specs.Written.{top-most}
+use Rattle.calls.specs.Written.{top-most, chunk-most}
 use Rattle.calls.specs.Remainder.{Fine, grant-fine, release-fine, settle-fine}
-use Rattle.calls.specs.Results.{Lent, SoundIn, UnsoundIn, answered, arenaLeft, recordLeft, heapLeft, LiveMem, Exactly, StaysSound, CachesKept, LiveKept, GrantedNew}
+use Rattle.calls.specs.Results.{Lent, SoundIn, UnsoundIn, answered, arenaLeft, recordLeft, heapLeft, LiveMem, Exactly, StaysSound, CachesKept, LiveKept, BlockAt, GrantedNew}
 use Rattle.calls.specs.Left.{lent-shape, lent-sound, lent-fine, left-heap, left-stays, left-keeps}
 use Rattle.calls.specs.Cases.{open-called, grant-cases, release-cases, settle-cases}
 
@@ -74,13 +72,13 @@ pub audits-unique : (a r : List ℕ) (x y : Audited) → x ≡ auditCall a r →
 audits-unique a r x y p q = p ∙ sym q
 
 -- ---- what cannot be
-clash : {B : Type 0} → _≡_ {A = ℕ} 0 1 → B
+pub clash : {B : Type 0} → _≡_ {A = ℕ} 0 1 → B
 clash z = absurd (omega arith)
 
-no-yes : {B : Type 0} (a r : List ℕ) → SoundIn a r → UnsoundIn a r → B
+pub no-yes : {B : Type 0} (a r : List ℕ) → SoundIn a r → UnsoundIn a r → B
 no-yes a r S U = clash (cc)
 
-not-live : (h : Heap) (c : ℕ) → (Loose h c → ⊥) → live? h c ≡ false
+pub not-live : (h : Heap) (c : ℕ) → (Loose h c → ⊥) → live? h c ≡ false
 not-live h c n = go (live? h c) refl
   where
     go : (t : Bool) → live? h c ≡ t → t ≡ false
@@ -98,23 +96,20 @@ sound-unsorted-few a r e = unsorted-few (heapIn a r) (go (shape? a r) refl e)
         audit-good (arenaWords a) (wordsOf r) (arena-words a (record { even = l .0; least = l .1; small = l .2 })) e
     go false s e = clash (cc)
 
--- a new block of a sound heap g
-new-block : (h g : Heap) (n c : ℕ) → Good g → Loose g c → need n ≤ sizeOf g c → (Loose h c → ⊥) → GrantedNew h g (g .len) n (c + 16) (usable (sizeOf g c))
+-- a block of a sound heap g
+pub block-at : (g : Heap) (n c : ℕ) → Good g → Loose g c → need n ≤ sizeOf g c → BlockAt g (g .len) n (c + 16) (usable (sizeOf g c))
 unfolding usable
-new-block h g n c G lo b dead =
+block-at g n c G lo b =
     let k : c + 16 - 16 ≡ c = omega arith in
     let s = G .shape in
     let m : 1 ≤ cnt c (starts g) = omega arith in
-    let st = start (g .tiles) 0 c (tiled-tiles g s) m in
-    let top : 1 ≤ cnt (topOf g) (Starts g) = omega (arith, starts-all g (topOf g), ind-same (topOf g)) in
     let z : 32 ≤ sizeOf g c = size-32 g c s m in
     record {
       low = omega arith;
-      fresh = rw k (not-live h c dead);
       live = rw k (loose-live g c s lo);
       usable = rw k;
       holds = omega (arith, need-bounds n .holds);
-      inside = ⊎-elim (λ l. absurd (omega (arith, st .high))) (λ l. ⊎-elim (λ e. absurd (omega (arith, st .high))) (λ e. omega (arith, top-most g G)) l) (clear-of g c (topOf g) s m top);
+      inside = omega (arith, chunk-most g G c m, top-most g G);
       apart = λ d ne v.
           let lo′ : Loose g d = live-loose g d v in
           let m′ : 1 ≤ cnt d (starts g) = omega (arith, lo′) in
@@ -125,9 +120,15 @@ new-block h g n c G lo b dead =
           (clear-of g c d s m (omega (arith, starts-all g d)));
     }
 
+-- a new one: it was not live before
+new-block : (h g : Heap) (n c : ℕ) → Good g → Loose g c → need n ≤ sizeOf g c → (Loose h c → ⊥) → GrantedNew h g (g .len) n (c + 16) (usable (sizeOf g c))
+new-block h g n c G lo b dead =
+    let k : c + 16 - 16 ≡ c = omega arith in
+    record { block = block-at g n c G lo b; fresh = rw k (not-live h c dead) }
+
 module _ (a r : List ℕ) (L : Lent a r) where
   -- nothing was written
-  same-keeps : (c : ℕ) (x : Answer) → live? (heapIn a r) c ≡ true → LiveKept a r c (after a r x)
+  pub same-keeps : (c : ℕ) (x : Answer) → live? (heapIn a r) c ≡ true → LiveKept a r c (after a r x)
   same-keeps c x v = record { live = v; size = refl; bytes = λ i l u. refl }
 
   heard : SoundIn a r → Sound (heapIn a r) (arenaWords a) (wordsOf r)
@@ -209,7 +210,7 @@ module _ (a r : List ℕ) (L : Lent a r) where
   pub open-sound : StaysSound (openCall a r)
   open-sound = subst StaysSound (open-called a r L) (left-stays a r (does (opened (length a)) (size 0 (length a) 1 ∷ [])) Done L open-ends)
 
-  same-stays : (x : Answer) → SoundIn a r → StaysSound (after a r x)
+  pub same-stays : (x : Answer) → SoundIn a r → StaysSound (after a r x)
   same-stays x S = record { lent = L; sound = S }
 
   pub grant-stays-sound : (n : ℕ) → SoundIn a r → StaysSound (grantCall a r n)

@@ -1,4 +1,5 @@
--- A grant that passed its tests: what it answers and leaves is the machine's. Assumes nothing.
+-- A call that sought a chunk: the chunk given stands in the arena, and its size word says its size. A grant that passed its tests: what it answers and
+-- leaves is the machine's. Assumes nothing.
 use mathlib.Core.Path.{_≡_, refl, sym, ap, _∙_, subst}
 use mathlib.Core.Bool.{Bool, true, false}
 use mathlib.Core.List.{List}
@@ -36,6 +37,7 @@ use Rattle.sound.specs.Frames.{Starts, starts-all}
 use Rattle.sound.specs.Edits.{tiled-tiles, size-32}
 use Rattle.sound.specs.Spares.{clear-of}
 use Rattle.sound.specs.Moves.{answerOf}
+use Rattle.sound.specs.Ends.{Ends}
 use Rattle.sound.specs.Keeps.{grant-ends}
 use Rattle.sound.specs.Live.{grant-gives}
 use Rattle.primitives.specs.Follow.{Ok, answer, Gave, Does}
@@ -46,7 +48,7 @@ use Rattle.calls.specs.Ways.{Octets, kept, grant-request, grant-unsound,
 use Rattle.calls.specs.Through.{Came, came-sound, told, sound-ok}
 
 -- ---- number 2
-needed-large : (n : ℕ) → neededOf n ≡ N.TooLarge → ltb mostRequest n ≡ true
+pub needed-large : (n : ℕ) → neededOf n ≡ N.TooLarge → ltb mostRequest n ≡ true
 unfolding neededOf
 needed-large n e = go (ltb mostRequest n) e
   where
@@ -103,7 +105,35 @@ size-most h w x s m i =
 answer-is : {A : Type 0} (s : Ran A) → answerOf s ≡ answer s
 answer-is (ran h ws x) = refl
 
--- ---- what the steps did
+-- ---- the steps s found a chunk: it stands in the arena, and its size word says its size
+module _ (a b p : List ℕ) (s : Ran Got) (g : Got) (gave : Gave Got s g (arenaWords a) (arenaWords b) p) (E : Ends s (arenaWords a) Good)
+    (loose : (c : ℕ) → answerOf s ≡ At c → Loose (heapOf s) c) (m : ℕ) (y : g ≡ At m) where
+  after-ok : Ok (heapOf s) (arenaWords b) p
+  after-ok = gave-ok s g (E .now .shape) (E .mem) gave
+
+  given : Loose (heapOf s) m
+  given = loose m (answer-is s ∙ gave .says ∙ y)
+
+  start : 1 ≤ cnt m (starts (heapOf s))
+  start = let l : Loose (heapOf s) m = given in omega arith
+
+  pub found-size : sizeAt (arenaWords b) m ≡ sizeOf (heapOf s) m
+  found-size = chunk-says (heapOf s) (after-ok .shape) (arenaWords b) (after-ok .mem) m start .size
+
+  pub found-stands : Octets b → Stands b m
+  found-stands o =
+      let h : Heap = heapOf s in
+      let i = loose-chunk h (arenaWords b) (after-ok .shape) (after-ok .mem) m given in
+      let e = found-size in
+      record {
+        even = omega (arith, i .even);
+        inside = omega (arith, i .inside, length-arenaWords b, o .even);
+        small = i .small;
+        least = omega (arith, e, size-32 h m (after-ok .shape) start);
+        most = omega (arith, e, size-most h (arenaWords b) m (after-ok .shape) (after-ok .mem) start);
+      }
+
+-- ---- what the steps of a grant did
 module _ (a r q b p : List ℕ) (n k : ℕ) (f : Audited) (g : Got) (c : Came a r q) (z : Sized n k) (e : f ≡ auditOf (arenaWords a) q) (s : sound? f ≡ true)
     (d : Does Got Good (grant k) (arenaWords a) q g (arenaWords b) p) where
   t : sound? (auditOf (arenaWords a) (wordsOf r)) ≡ true
@@ -112,48 +142,30 @@ module _ (a r q b p : List ℕ) (n k : ℕ) (f : Audited) (g : Got) (c : Came a 
   heard : Sound (heapIn a r) (arenaWords a) (wordsOf r)
   heard = came-sound a r q c t
 
-  gave : Gave Got (grant k (heapIn a r)) g (arenaWords a) (arenaWords b) p
-  gave = subst (λ (l : List ℕ). Does Got Good (grant k) (arenaWords a) l g (arenaWords b) p) (c .words) d .does (heapIn a r) (sound-ok heard) (heard .good)
+  gave : Gave Got (grant (need n) (heapIn a r)) g (arenaWords a) (arenaWords b) p
+  gave =
+      subst (λ (m : ℕ). Gave Got (grant m (heapIn a r)) g (arenaWords a) (arenaWords b) p) (z .is)
+      (subst (λ (l : List ℕ). Does Got Good (grant k) (arenaWords a) l g (arenaWords b) p) (c .words) d .does (heapIn a r) (sound-ok heard) (heard .good))
 
-  gave-need : Gave Got (grant (need n) (heapIn a r)) g (arenaWords a) (arenaWords b) p
-  gave-need = subst (λ (m : ℕ). Gave Got (grant m (heapIn a r)) g (arenaWords a) (arenaWords b) p) (z .is) gave
+  ends : Ends (grant (need n) (heapIn a r)) (arenaWords a) Good
+  ends = grant-ends (need n) (need-bounds n .whole) (need-bounds n .least) (heapIn a r) (arenaWords a) (heard .good) (heard .mem)
 
-  after-ok : Ok (heapOf (grant k (heapIn a r))) (arenaWords b) p
-  after-ok = let w = grant-ends k (z .whole) (z .least) (heapIn a r) (arenaWords a) (heard .good) (heard .mem) in gave-ok (grant k (heapIn a r)) g (w .now .shape) (w .mem) gave
+  loose : (c : ℕ) → answerOf (grant (need n) (heapIn a r)) ≡ At c → Loose (heapOf (grant (need n) (heapIn a r))) c
+  loose c y = grant-gives (need n) (need-bounds n .whole) (need-bounds n .least) (heapIn a r) (arenaWords a) (heard .good) (heard .mem) .given c y .0
 
   pub grant-through-none : (v : List ℕ) → g ≡ Nothing → Octets b → v ≡ bytes 4 p → after b v (Refused R.NoRoom) ≡ grantCall a r n
   grant-through-none v y o l =
       kept b v p (Refused R.NoRoom) l
-      (grant-none a r b p n (c .shape) (z .small) t o (subst (λ (x : Got). Gave Got (grant (need n) (heapIn a r)) x (arenaWords a) (arenaWords b) p) y gave-need))
+      (grant-none a r b p n (c .shape) (z .small) t o (subst (λ (x : Got). Gave Got (grant (need n) (heapIn a r)) x (arenaWords a) (arenaWords b) p) y gave))
 
-  -- the chunk given stands in the arena, and its size word says its size
-  module _ (m : ℕ) (y : g ≡ At m) where
-    given : Loose (heapOf (grant k (heapIn a r))) m
-    given = grant-gives k (z .whole) (z .least) (heapIn a r) (arenaWords a) (heard .good) (heard .mem) .given m (answer-is (grant k (heapIn a r)) ∙ gave .says ∙ y) .0
+  pub grant-stands : (m : ℕ) → g ≡ At m → Octets b → Stands b m
+  grant-stands m y o = found-stands a b p (grant (need n) (heapIn a r)) g gave ends loose m y o
 
-    start : 1 ≤ cnt m (starts (heapOf (grant k (heapIn a r))))
-    start = let l : Loose (heapOf (grant k (heapIn a r))) m = given in omega arith
-
-    size : sizeAt (arenaWords b) m ≡ sizeOf (heapOf (grant k (heapIn a r))) m
-    size = chunk-says (heapOf (grant k (heapIn a r))) (after-ok .shape) (arenaWords b) (after-ok .mem) m start .size
-
-    pub grant-stands : Octets b → Stands b m
-    grant-stands o =
-        let h : Heap = heapOf (grant k (heapIn a r)) in
-        let i = loose-chunk h (arenaWords b) (after-ok .shape) (after-ok .mem) m given in
-        let e = size in
-        record {
-          even = omega (arith, i .even);
-          inside = omega (arith, i .inside, length-arenaWords b, o .even);
-          small = i .small;
-          least = omega (arith, e, size-32 h m (after-ok .shape) start);
-          most = omega (arith, e, size-most h (arenaWords b) m (after-ok .shape) (after-ok .mem) start);
-        }
-
-    pub grant-through-at : (v : List ℕ) (x : Answer) → Octets b → v ≡ bytes 4 p → x ≡ Granted (m + 16) (usable (sizeAt (arenaWords b) m)) → after b v x ≡ grantCall a r n
-    grant-through-at v x o l w =
-        ap (after b v) w
-        ∙ kept b v p (Granted (m + 16) (usable (sizeAt (arenaWords b) m))) l
-        (grant-at a r b p n m (usable (sizeAt (arenaWords b) m)) (c .shape) (z .small) t o
-        (subst (λ (x : Got). Gave Got (grant (need n) (heapIn a r)) x (arenaWords a) (arenaWords b) p) y gave-need)
-        (ap usable size ∙ ap (λ (j : ℕ). usable (sizeOf (heapOf (grant j (heapIn a r))) m)) (z .is)))
+  pub grant-through-at : (m : ℕ) → g ≡ At m → (v : List ℕ) (x : Answer) → Octets b → v ≡ bytes 4 p → x ≡ Granted (m + 16) (usable (sizeAt (arenaWords b) m))
+      → after b v x ≡ grantCall a r n
+  grant-through-at m y v x o l w =
+      ap (after b v) w
+      ∙ kept b v p (Granted (m + 16) (usable (sizeAt (arenaWords b) m))) l
+      (grant-at a r b p n m (usable (sizeAt (arenaWords b) m)) (c .shape) (z .small) t o
+      (subst (λ (x : Got). Gave Got (grant (need n) (heapIn a r)) x (arenaWords a) (arenaWords b) p) y gave)
+      (ap usable (found-size a b p (grant (need n) (heapIn a r)) g gave ends loose m y)))

@@ -1,16 +1,14 @@
 -- What a step of a sound heap leaves in the two buffers: bytes of good shape that spell its heap, and the usable bytes of every block that it spares.
 -- Assumes nothing.
 use mathlib.Core.Path.{_≡_, refl, sym, ap, _∙_, subst}
-use mathlib.Core.List.{List, [], _∷_, _++_}
+use mathlib.Core.List.{List}
 use mathlib.Core.Bool.{Bool, true}
-use mathlib.Core.Logic.{⊎-elim}
-use Prim.Native.Nat.{ℕ, suc, _+_, _-_, _/_, _%_, _≤_}
+use Prim.Native.Nat.{ℕ, _+_, _/_, _%_, _≤_, _<_}
 use native.Mathlib.Omega.{arith}
 use lib.Dec.{leb}
-use lib.ListN.{length, getD, length-append, List·getD-append}
-use lib.Seq.{getD-append-add}
+use lib.ListN.{length, getD}
 use borrow.Author.Tests.{eq-eqb, le-leb}
-use Rattle.le.specs.Number.{digits, bytes}
+use Rattle.le.specs.Number.{bytes}
 use Rattle.le.specs.Arena.{arenaWords}
 use Rattle.le.specs.NumberLaws.{number-small}
 use Rattle.le.specs.WordsLaws.{length-bytes, getD-words}
@@ -23,7 +21,7 @@ use Rattle.machine.specs.Audit.{sound?}
 use Rattle.machine.specs.Calls.{left, shape?, arenaAllowed?, wordsOf, heapIn}
 use Rattle.machine.specs.declared.Answer.{Answer}
 use Rattle.sound.specs.Relation.{Loose, Good, Sound}
-use Rattle.sound.specs.Tiles.{lt-or-le, start}
+use Rattle.sound.specs.Tiles.{start}
 use Rattle.sound.specs.Frames.{apply-length}
 use Rattle.sound.specs.Edits.{tiled-tiles, size-16}
 use Rattle.sound.specs.RecordOf.{record-words}
@@ -32,36 +30,10 @@ use Rattle.sound.specs.Live.{Tame, tame-words, live-loose, loose-live}
 use Rattle.audit.specs.Exact.{audit-complete}
 use Rattle.calls.specs.Ways.{shape-true}
 use Rattle.calls.specs.Through.{came-sound}
-use Rattle.calls.specs.Bytes.{bytes-small}
-use Rattle.calls.specs.Written.{written-sound, written-read}
+use Rattle.calls.specs.Bytes.{byte-same, bytes-small}
+use Rattle.calls.specs.Written.{top-most, chunk-most, written-sound, written-read}
 use Rattle.calls.specs.Remainder.{Fine}
 use Rattle.calls.specs.Results.{Lent, SoundIn, heapLeft, StaysSound, LiveKept}
-
--- ---- equal words have equal bytes
-width : (v : ℕ) → length (digits 8 v) ≡ 8
-unfolding bytes
-width v = omega (arith, length-append (digits 8 v) [], length-bytes 8 (v ∷ []))
-
-bytes-at : (u v : List ℕ) (i : ℕ) → length u ≡ length v → getD u (i / 8) 0 ≡ getD v (i / 8) 0 → getD (bytes 8 u) i 0 ≡ getD (bytes 8 v) i 0
-unfolding bytes
-bytes-at [] [] i l e = refl
-bytes-at [] (y ∷ v) i l e = absurd (omega arith)
-bytes-at (x ∷ u) [] i l e = absurd (omega arith)
-bytes-at (x ∷ u) (y ∷ v) i l e = ⊎-elim
-    (λ k.
-    let z : i / 8 ≡ 0 = omega arith in
-    let q : x ≡ y = subst (λ (j : ℕ). getD (x ∷ u) j 0 ≡ getD (y ∷ v) j 0) z e in
-    List·getD-append (digits 8 x) (bytes 8 u) 0 i (omega (arith, width x)) ∙ ap (λ (n : ℕ). getD (digits 8 n) i 0) q
-    ∙ sym (List·getD-append (digits 8 y) (bytes 8 v) 0 i (omega (arith, width y))))
-    (λ k.
-    let z : i / 8 ≡ suc ((i - 8) / 8) = omega arith in
-    behind x u k ∙ bytes-at u v (i - 8) (omega arith) (subst (λ (j : ℕ). getD (x ∷ u) j 0 ≡ getD (y ∷ v) j 0) z e) ∙ sym (behind y v k))
-    (lt-or-le i 8)
-  where
-    behind : (x : ℕ) (u : List ℕ) → 8 ≤ i → getD (digits 8 x ++ bytes 8 u) i 0 ≡ getD (bytes 8 u) (i - 8) 0
-    behind x u k =
-        let z : i ≡ length (digits 8 x) + (i - 8) = omega (arith, width x) in
-        ap (λ (j : ℕ). getD (digits 8 x ++ bytes 8 u) j 0) z ∙ getD-append-add (digits 8 x) (bytes 8 u) (i - 8) 0
 
 -- ---- good shape
 pub lent-shape : (a r : List ℕ) → Lent a r → (arenaAllowed? (length a) ≡ true) × (shape? a r ≡ true)
@@ -121,7 +93,32 @@ module _ {A : Type 0} (a r : List ℕ) (s : Ran A) (y : Answer) (L : Lent a r) (
         live = subst (λ (g : Heap). live? g c ≡ true) (sym left-heap) (loose-live (heapOf s) c (E .now .good .shape) (k .0));
         size = ap (λ (g : Heap). sizeOf g c) left-heap ∙ k .1;
         bytes = λ i l u.
-            bytes-at (apply (writes s) w) w i (apply-length (writes s) w)
+            let in? : i / 8 < length w = omega (arith, chunk-most h G c m, top-most h G) in
+            byte-same (apply (writes s) w) w i i refl (omega (arith, apply-length (writes s) w)) in?
             (tame-words X h s w t c x lo (i / 8) (omega (arith, st .even)) (omega (arith, st .even, size-16 h c (G .shape) m)))
             ∙ ap (λ (b : List ℕ). getD b i 0) (bytes-arenaWords a (omega (arith, L .even)) (L .bytes));
       }
+
+  -- a block that is somewhere else after the step: of the words from the third on that it had and has room for, each byte
+  pub left-moves : (c d z n : ℕ) → SoundIn a r → live? (heapIn a r) c ≡ true → Loose (heapOf s) d → z ≡ sizeOf (heapIn a r) c → n ≡ sizeOf (heapOf s) d
+      → ((i : ℕ) → 2 ≤ i → i ≤ z / 8 → i ≤ n / 8 → getD (apply (writes s) (arenaWords a)) (d / 8 + i) 0 ≡ getD (arenaWords a) (c / 8 + i) 0)
+      → (i : ℕ) → i + 8 < z → i + 8 < n → getD (bytes 8 (apply (writes s) (arenaWords a))) (d + 16 + i) 0 ≡ getD a (c + 16 + i) 0
+  left-moves c d z n S v ld ez en f i iz jn =
+      let h : Heap = heapIn a r in
+      let g : Heap = heapOf s in
+      let w : List ℕ = arenaWords a in
+      let G : Good h = lent-sound a r L S .good in
+      let G′ : Good g = E .now .good in
+      let lo : Loose h c = live-loose h c v in
+      let m : 1 ≤ cnt c (starts h) = omega arith in
+      let m′ : 1 ≤ cnt d (starts g) = omega arith in
+      let st = start (h .tiles) 0 c (tiled-tiles h (G .shape)) m in
+      let st′ = start (g .tiles) 0 d (tiled-tiles g (G′ .shape)) m′ in
+      let at : (c + 16 + i) / 8 ≡ c / 8 + (i / 8 + 2) = omega (arith, st .even) in
+      let at′ : (d + 16 + i) / 8 ≡ d / 8 + (i / 8 + 2) = omega (arith, st′ .even) in
+      let k : getD (apply (writes s) w) ((d + 16 + i) / 8) 0 ≡ getD w ((c + 16 + i) / 8) 0 =
+      ap (λ (j : ℕ). getD (apply (writes s) w) j 0) at′ ∙ f (i / 8 + 2) (omega arith) (omega (arith, ez, size-16 h c (G .shape) m)) (omega (arith, en, size-16 g d (G′ .shape) m′))
+      ∙ ap (λ (j : ℕ). getD w j 0) (sym at) in
+      byte-same (apply (writes s) w) w (d + 16 + i) (c + 16 + i) (omega (arith, st .even, st′ .even))
+      (omega (arith, E .mem .long, en, chunk-most g G′ d m′, top-most g G′)) (omega (arith, ez, chunk-most h G c m, top-most h G)) k
+      ∙ ap (λ (b : List ℕ). getD b (c + 16 + i) 0) (bytes-arenaWords a (omega (arith, L .even)) (L .bytes))

@@ -2,6 +2,7 @@ pub mod Blank
 pub mod Ways
 pub mod Through
 pub mod Grants
+pub mod Resizes
 pub mod Bytes
 pub mod Written
 pub mod Remainder
@@ -9,3 +10,4 @@ pub mod Results
 pub mod Left
 pub mod Cases
 pub mod Consequences
+pub mod ResizeConsequences

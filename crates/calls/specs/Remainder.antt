@@ -3,27 +3,27 @@
 use mathlib.Core.Path.{_≡_, refl, sym, subst}
 use mathlib.Core.List.{List, [], _∷_}
 use mathlib.Core.Bool.{Bool, true, false}
-use Prim.Native.Nat.{ℕ, zero, suc, _+_, _-_, _%_, _≤_}
+use Prim.Native.Nat.{ℕ, zero, suc, _+_, _-_, _/_, _%_, _≤_}
 use native.Mathlib.Omega.{arith}
 use lib.Dec.{eqb, ltb, leb}
 use lib.ListN.{length}
 use Rattle.sizes.specs.Limits.{none64, none32, mostCached, cacheRoom, mostFast, large, unsorted, leastChunk, lastBin}
 use Rattle.sizes.specs.Sizes.{cacheOf, fastOf, binOf}
 use Rattle.machine.specs.Lists.{both, hd, lst, some?, cnt}
-use Rattle.machine.specs.Heap.{Heap, cache, fastAt, fast, bin, anyFast?, topSize, sizeOf, next}
-use Rattle.machine.specs.Writes.{Write, apply, Ran, ran, heapOf, writes, giving, more, _>>=_, _orElse_}
-use Rattle.machine.specs.Primitives.{pop, pushCache, linkIn, putFirst, unlink, setP, cutTop, setRemainder}
-use Rattle.machine.specs.Release.{releasePast, release, consolidate, settle}
+use Rattle.machine.specs.Heap.{Heap, cache, fastAt, fast, bin, anyFast?, topOf, topSize, sizeOf, pOf, next, before, binned, binHas}
+use Rattle.machine.specs.Writes.{Write, apply, Ran, ran, heapOf, writes, does, giving, more, _>>=_, _orElse_}
+use Rattle.machine.specs.Primitives.{push, pop, pushCache, linkIn, putFirst, unlink, clearP, setP, toTop, cutTop, setRemainder, widen, trimAt, growTop}
+use Rattle.machine.specs.Release.{absorb, joinNext, putDown, join, releasePast, release, consolidate, settle}
 use Rattle.machine.specs.Grant.{roomFor?, step1, moveFast, step2, takeLast, moveLasts, step3, step4, split, front, behind, sortIn, lone?, splitLone, keep, turnAt, turn, swept, afterTurn, sweep, step5, carve, step8, fit, step6, firstBin, step7, step9, pass, again, from4, seek, grant}
+use Rattle.machine.specs.Resize.{nextP, finish, copies, moved, resize}
 use Rattle.machine.specs.declared.{Got.Got, Got.the-variants.At, Got.the-variants.Nothing, Turn.Turn}
 use Rattle.machine.specs.declared.Turn.the-variants as T
 use Rattle.sound.specs.Relation.{Mem, Loose, Good}
 use Rattle.sound.specs.Ends.{Ends, ends-more, ends-then}
 use Rattle.sound.specs.Small.{some-has}
 use Rattle.sound.specs.Large.{fit-has, firstBin-has}
-use Rattle.sound.specs.Release.{releasePast-leaves}
 use Rattle.sound.specs.Live.{consolidate-empties, settle-empties}
-use Rattle.sound.specs.Keeps.{release-ends, consolidate-ends, settle-ends, step1-ends, step2-ends, step3-ends, turn-ends, step5-ends, step6-ends, step7-ends, step9-ends}
+use Rattle.sound.specs.Keeps.{release-ends, consolidate-ends, settle-ends, step1-ends, step2-ends, step3-ends, turn-ends, step5-ends, step6-ends, step7-ends, step9-ends, resize-ends}
 use Rattle.calls.specs.Written.{bin-most}
 
 abbrev Low : {A : Type 0} → Ran A → Type 0
@@ -258,14 +258,85 @@ module _ (b : ℕ) (b16 : b % 16 ≡ 0) (b32 : 32 ≤ b) (most : b ≤ 262160) w
   grant-fine h w F m = fine-else (seek b) (fine-of (step1-ends b b16 b32 h w (F .good) m) (step1-low b h (F .low))) seek-fine
 
 -- ---- release and settle
-pub release-fine : (c : ℕ) (h : Heap) (w : List ℕ) → Fine h → Mem h w → Loose h c → Ends (release c h) w Fine
-unfolding release
-release-fine c h w F m lo = fine-of (release-ends h w c (F .good) m lo) low
+joinNext-low : (c : ℕ) (h : Heap) → h .remainder ≤ none32 → Low (joinNext c h)
+unfolding joinNext absorb
+joinNext-low c h l = low-if (eqb (binned h (next h c)) 0) (does h []) (absorb (next h c) c h) (λ e. l) (λ e. l)
+
+putDown-low : (c : ℕ) (h : Heap) → h .remainder ≤ none32 → Low (putDown c h)
+unfolding putDown
+putDown-low c h l =
+    let f : Heap → Ran (Unit {0}) = λ h. putFirst unsorted c h in
+    low-if (eqb (next h c) (topOf h)) (giving (h .len - c) (toTop c h)) (giving (sizeOf h c) (clearP (next h c) (sizeOf h c) h >>= f)) (λ e. l) (λ e. l)
+
+join-low : (c : ℕ) (h : Heap) → h .remainder ≤ none32 → Low (join c h)
+unfolding join absorb
+join-low c h l = low-if (eqb (pOf h c) 0) (absorb (before h c) (before h c) h >>= rest (before h c)) (rest c h)
+    (λ e. low-then (absorb (before h c) (before h c) h) (rest (before h c)) l (rest-low (before h c)))
+    (λ e. rest-low c h l)
   where
-    low : Low (release c h)
-    low = low-if (both (leb (sizeOf h c) mostCached) (ltb (length (cache h (cacheOf (sizeOf h c)))) cacheRoom)) (giving 0 (pushCache (cacheOf (sizeOf h c)) c h)) (releasePast c h)
-        (λ e. F .low)
-        (λ e. subst (λ (n : ℕ). n ≤ none32) (sym (releasePast-leaves h w c (F .good) m lo .now .1 .remainder)) (F .low))
+    rest : ℕ → Heap → Ran ℕ
+    rest q h = joinNext q h >>= (λ h. putDown q h)
+
+    rest-low : (q : ℕ) (h : Heap) → h .remainder ≤ none32 → Low (rest q h)
+    rest-low q h l = low-then (joinNext q h) (λ h. putDown q h) (joinNext-low q h l) (putDown-low q)
+
+release-low : (c : ℕ) (h : Heap) → h .remainder ≤ none32 → Low (release c h)
+unfolding release releasePast
+release-low c h l =
+    low-if (both (leb (sizeOf h c) mostCached) (ltb (length (cache h (cacheOf (sizeOf h c)))) cacheRoom)) (giving 0 (pushCache (cacheOf (sizeOf h c)) c h)) (releasePast c h)
+    (λ e. l)
+    (λ e. low-if (leb (sizeOf h c) mostFast) (giving 0 (push (fastAt (fastOf (sizeOf h c))) c h)) (join c h) (λ q. l) (λ q. join-low c h l))
+
+pub release-fine : (c : ℕ) (h : Heap) (w : List ℕ) → Fine h → Mem h w → Loose h c → Ends (release c h) w Fine
+release-fine c h w F m lo = fine-of (release-ends h w c (F .good) m lo) (release-low c h (F .low))
 
 pub settle-fine : (h : Heap) (w : List ℕ) → Fine h → Mem h w → Ends (settle h) w Fine
 settle-fine h w F m = fine-of (settle-ends h w (F .good) m) (subst (λ (n : ℕ). n ≤ none32) (sym (settle-empties h w (F .good) m .none)) (omega arith))
+
+-- ---- resize
+nextP-low : (c : ℕ) (h : Heap) → h .remainder ≤ none32 → Low (nextP c h)
+unfolding nextP
+nextP-low c h l = low-if (eqb (next h c) (topOf h)) (does h []) (setP (next h c) h) (λ e. l) (λ e. l)
+
+module _ (c b : ℕ) where
+  finish-low : (h : Heap) → h .remainder ≤ none32 → Low (finish c b h)
+  unfolding finish
+  finish-low h l =
+      let f : Heap → Ran (Unit {0}) = λ h. giving tt (release (c + b) h) in
+      let g : Heap → Ran (Unit {0}) = λ h. nextP (c + b) h >>= f in
+      low-if (ltb (sizeOf h c - b) leastChunk) (nextP c h) (trimAt c b h >>= g)
+      (λ e. nextP-low c h l)
+      (λ e. low-then (trimAt c b h) g l
+      (λ i k. low-then (nextP (c + b) i) f (nextP-low (c + b) i k) (λ j n. low-giving tt (release (c + b) j) (release-low (c + b) j n))))
+
+  widen-low : (h : Heap) → h .remainder ≤ none32 → Low (widen c h >>= finish c b)
+  widen-low h l = low-then (widen c h) (finish c b) l finish-low
+
+  moved-low : (z : ℕ) (r : Ran Got) → Low r → Low (moved c b z r)
+  moved-low z (ran h ws Nothing) l = l
+  moved-low z (ran h ws (At d)) l =
+      let x : Ran (Unit {0}) = widen c h >>= finish c b in
+      let y : Ran ℕ = does h (copies d c (z / 8 - 1)) >>= release c in
+      low-more {A = Got} ws (elim (eqb d (c + z)) [ true ↦ giving (At c) x | false ↦ giving (At d) y ])
+      (low-if (eqb d (c + z)) (giving (At c) x) (giving (At d) y)
+      (λ e. low-giving (At c) x (widen-low h l))
+      (λ e. low-giving (At d) y (low-then (does h (copies d c (z / 8 - 1))) (release c) l (release-low c))))
+
+pub resize-fine : (b : ℕ) → b % 16 ≡ 0 → 32 ≤ b → b ≤ 262160 → (c : ℕ) (h : Heap) (w : List ℕ) → Fine h → Mem h w → Loose h c → Ends (resize c b h) w Fine
+unfolding resize
+resize-fine b b16 b32 most c h w F m lo = fine-of (resize-ends b b16 b32 h w (F .good) m c lo) low
+  where
+    low : Low (resize c b h)
+    low =
+        let x : Ran (Unit {0}) = unlink (binHas h (next h c)) (next h c) h >>= (λ h. widen c h >>= finish c b) in
+        let fromBin : Bool = both (ltb 0 (binned h (next h c))) (leb b (sizeOf h c + sizeOf h (next h c))) in
+        let fromTop : Bool = both (eqb (next h c) (topOf h)) (leb (b + 32) (sizeOf h c + topSize h)) in
+        let sought : Ran Got = moved c b (sizeOf h c) (seek b h) in
+        low-if (leb b (sizeOf h c)) (giving (At c) (finish c b h))
+        (elim fromTop [ true ↦ giving (At c) (growTop c b h) | false ↦ elim fromBin [ true ↦ giving (At c) x | false ↦ sought ] ])
+        (λ e. low-giving (At c) (finish c b h) (finish-low c b h (F .low)))
+        (λ e. low-if fromTop (giving (At c) (growTop c b h)) (elim fromBin [ true ↦ giving (At c) x | false ↦ sought ])
+        (λ e. F .low)
+        (λ e. low-if fromBin (giving (At c) x) sought
+        (λ e. low-giving (At c) x (low-then (unlink (binHas h (next h c)) (next h c) h) (λ h. widen c h >>= finish c b) (F .low) (widen-low c b)))
+        (λ e. moved-low c b (sizeOf h c) (seek b h) (seek-fine b b16 b32 most h w F m .now .low))))

@@ -91,8 +91,8 @@ settle-through a r q b v p f c e s o d z =
 pub came-changes : (a r q p : List ℕ) (x : Changed) → Came a r q → Changes x q p → Changes x (wordsOf r) p
 came-changes a r q p x c k = subst (λ (l : List ℕ). Changes x l p) (c .words) k
 
--- ---- release
-looked : (a r q : List ℕ) (m : ℕ) (l : Look) → Came a r q → l ≡ lookAt (arenaWords a) q m → l ≡ lookAt (arenaWords a) (wordsOf r) m
+-- ---- release and resize
+pub looked : (a r q : List ℕ) (m : ℕ) (l : Look) → Came a r q → l ≡ lookAt (arenaWords a) q m → l ≡ lookAt (arenaWords a) (wordsOf r) m
 looked a r q m l c e = e ∙ ap (λ (p : List ℕ). lookAt (arenaWords a) p m) (c .words)
 
 pub release-refused : (a r q : List ℕ) (m : ℕ) (l : Look) (f : Audited) → Came a r q → l ≡ lookAt (arenaWords a) q m → l ≡ Faulty f → after a r (Refused R.Unsound) ≡ releaseCall a r m

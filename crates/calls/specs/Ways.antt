@@ -16,8 +16,9 @@ use Rattle.machine.specs.Heap.{Heap, sizeOf, live?}
 use Rattle.machine.specs.Writes.{size, put, apply, Ran, ran, heapOf, writes}
 use Rattle.machine.specs.Release.{release, settle}
 use Rattle.machine.specs.Grant.{grant}
+use Rattle.machine.specs.Resize.{resize}
 use Rattle.machine.specs.Audit.{sound?, auditOf}
-use Rattle.machine.specs.Calls.{After, after, left, refused, shape?, arenaAllowed?, wordsOf, heapIn, onSound, openCall, granted, grantCall, done, releaseCall, settleCall, auditCall}
+use Rattle.machine.specs.Calls.{After, after, left, refused, shape?, arenaAllowed?, wordsOf, heapIn, onSound, onRequest, onLive, openCall, granted, grantCall, done, releaseCall, resizeCall, settleCall, auditCall}
 use Rattle.machine.specs.declared.{Got.Got, Got.the-variants.At, Got.the-variants.Nothing}
 use Rattle.machine.specs.declared.Audited.{Audited}
 use Rattle.machine.specs.declared.Audited.the-variants as A
@@ -120,68 +121,86 @@ unfolding settleCall
 settle-done a r b q e s o m =
     left-is a b q (settle (heapIn a r)) tt Done o m ∙ sym (done-is a (settle (heapIn a r))) ∙ on-sound a r (λ h. done a (settle h)) e s
 
--- ---- grant
+-- ---- numbers 1, 2 and 3, of every call with a request
 both-no : (t : Bool) → both t false ≡ false
 both-no true = refl
 both-no false = refl
 
--- the call on the heap, behind number 2's test
-granting : (a : List ℕ) (n : ℕ) → Heap → After
-granting a n h = granted a (grant (need n) h)
+request-test : (a r : List ℕ) (n : ℕ) (f : Heap → After) (t : Bool) → both (shape? a r) (ltb mostRequest n) ≡ t
+    → _≡_ {A = After} (elim t [ true ↦ refused a r R.Request | false ↦ onSound a r f ]) (onRequest a r n f)
+request-test a r n f t e = ap (λ (x : Bool). elim x [ true ↦ refused a r R.Request | false ↦ onSound a r f ]) (sym e)
 
-request : (a r : List ℕ) (n : ℕ) → Bool → After
-request a r n t = elim t [ true ↦ refused a r R.Request | false ↦ onSound a r (granting a n) ]
+request-small : (a r : List ℕ) (n : ℕ) (f : Heap → After) → ltb mostRequest n ≡ false → onSound a r f ≡ onRequest a r n f
+request-small a r n f l = request-test a r n f false (ap (both (shape? a r)) l ∙ both-no (shape? a r))
 
-grant-test : (a r : List ℕ) (n : ℕ) (t : Bool) → both (shape? a r) (ltb mostRequest n) ≡ t → request a r n t ≡ grantCall a r n
-unfolding grantCall granting request
-grant-test a r n t e = ap (λ (x : Bool). elim x [ true ↦ refused a r R.Request | false ↦ onSound a r (λ h. granted a (grant (need n) h)) ]) (sym e)
+request-shape : (a r : List ℕ) (n : ℕ) (f : Heap → After) → shape? a r ≡ false → refused a r R.Shape ≡ onRequest a r n f
+request-shape a r n f e = on-shape a r f e ∙ request-test a r n f false (ap (λ (t : Bool). both t (ltb mostRequest n)) e)
 
-grant-small : (a r : List ℕ) (n : ℕ) → ltb mostRequest n ≡ false → onSound a r (granting a n) ≡ grantCall a r n
-unfolding request
-grant-small a r n l = grant-test a r n false (ap (both (shape? a r)) l ∙ both-no (shape? a r))
+request-large : (a r : List ℕ) (n : ℕ) (f : Heap → After) → shape? a r ≡ true → ltb mostRequest n ≡ true → refused a r R.Request ≡ onRequest a r n f
+request-large a r n f e l = request-test a r n f true (ap (λ (t : Bool). both t (ltb mostRequest n)) e ∙ l)
 
-pub grant-shape : (a r : List ℕ) (n : ℕ) → shape? a r ≡ false → after a r (Refused R.Shape) ≡ grantCall a r n
-unfolding request
-grant-shape a r n e = on-shape a r (granting a n) e ∙ grant-test a r n false (ap (λ (t : Bool). both t (ltb mostRequest n)) e)
+request-unsound : (a r : List ℕ) (n : ℕ) (f : Heap → After) → shape? a r ≡ true → ltb mostRequest n ≡ false → sound? (auditOf (arenaWords a) (wordsOf r)) ≡ false
+    → refused a r R.Unsound ≡ onRequest a r n f
+request-unsound a r n f e l s = on-unsound a r f e s ∙ request-small a r n f l
 
-pub grant-request : (a r : List ℕ) (n : ℕ) → shape? a r ≡ true → ltb mostRequest n ≡ true → after a r (Refused R.Request) ≡ grantCall a r n
-unfolding request
-grant-request a r n e l = grant-test a r n true (ap (λ (t : Bool). both t (ltb mostRequest n)) e ∙ l)
+pub request-sound : (a r : List ℕ) (n : ℕ) (f : Heap → After) → shape? a r ≡ true → ltb mostRequest n ≡ false → sound? (auditOf (arenaWords a) (wordsOf r)) ≡ true
+    → f (heapIn a r) ≡ onRequest a r n f
+request-sound a r n f e l s = on-sound a r f e s ∙ request-small a r n f l
 
-pub grant-unsound : (a r : List ℕ) (n : ℕ) → shape? a r ≡ true → ltb mostRequest n ≡ false → sound? (auditOf (arenaWords a) (wordsOf r)) ≡ false
-    → after a r (Refused R.Unsound) ≡ grantCall a r n
-grant-unsound a r n e l s = on-unsound a r (granting a n) e s ∙ grant-small a r n l
+-- ---- number 4
+pub live-yes : (a r : List ℕ) (m : ℕ) (h : Heap) (x : After) → both (leb 16 m) (live? h (m - 16)) ≡ true → x ≡ onLive a r m h x
+live-yes a r m h x e = ap (λ (t : Bool). elim t [ true ↦ x | false ↦ refused a r R.NotLive ]) (sym e)
 
+live-no : (a r : List ℕ) (m : ℕ) (h : Heap) (x : After) → both (leb 16 m) (live? h (m - 16)) ≡ false → refused a r R.NotLive ≡ onLive a r m h x
+live-no a r m h x e = ap (λ (t : Bool). elim t [ true ↦ x | false ↦ refused a r R.NotLive ]) (sym e)
+
+-- ---- a chunk was sought
 granted-at : (a : List ℕ) (s : Ran Got) (c : ℕ) → answer s ≡ At c → granted a s ≡ left a (heapOf s) (writes s) (Granted (c + 16) (usable (sizeOf (heapOf s) c)))
 granted-at a (ran h ws x) c e = rw e
 
 granted-none : (a : List ℕ) (s : Ran Got) → answer s ≡ Nothing → granted a s ≡ left a (heapOf s) (writes s) (Refused R.NoRoom)
 granted-none a (ran h ws x) e = rw e
 
+gave-none : (a b q : List ℕ) (s : Ran Got) → Octets b → Gave Got s Nothing (arenaWords a) (arenaWords b) q → after b (bytes 4 q) (Refused R.NoRoom) ≡ granted a s
+gave-none a b q s o m = left-is a b q s Nothing (Refused R.NoRoom) o m ∙ sym (granted-none a s (m .says))
+
+gave-at : (a b q : List ℕ) (s : Ran Got) (c u : ℕ) → Octets b → Gave Got s (At c) (arenaWords a) (arenaWords b) q → u ≡ usable (sizeOf (heapOf s) c)
+    → after b (bytes 4 q) (Granted (c + 16) u) ≡ granted a s
+gave-at a b q s c u o m z =
+    left-is a b q s (At c) (Granted (c + 16) u) o m ∙ ap (λ (v : ℕ). left a (heapOf s) (writes s) (Granted (c + 16) v)) z ∙ sym (granted-at a s c (m .says))
+
+-- ---- grant
+granting : (a : List ℕ) (n : ℕ) → Heap → After
+granting a n h = granted a (grant (need n) h)
+
+grant-is : (a r : List ℕ) (n : ℕ) → onRequest a r n (granting a n) ≡ grantCall a r n
+unfolding grantCall granting
+grant-is a r n = refl
+
+pub grant-shape : (a r : List ℕ) (n : ℕ) → shape? a r ≡ false → after a r (Refused R.Shape) ≡ grantCall a r n
+grant-shape a r n e = request-shape a r n (granting a n) e ∙ grant-is a r n
+
+pub grant-request : (a r : List ℕ) (n : ℕ) → shape? a r ≡ true → ltb mostRequest n ≡ true → after a r (Refused R.Request) ≡ grantCall a r n
+grant-request a r n e l = request-large a r n (granting a n) e l ∙ grant-is a r n
+
+pub grant-unsound : (a r : List ℕ) (n : ℕ) → shape? a r ≡ true → ltb mostRequest n ≡ false → sound? (auditOf (arenaWords a) (wordsOf r)) ≡ false
+    → after a r (Refused R.Unsound) ≡ grantCall a r n
+grant-unsound a r n e l s = request-unsound a r n (granting a n) e l s ∙ grant-is a r n
+
 pub grant-none : (a r b q : List ℕ) (n : ℕ) → shape? a r ≡ true → ltb mostRequest n ≡ false → sound? (auditOf (arenaWords a) (wordsOf r)) ≡ true → Octets b
     → Gave Got (grant (need n) (heapIn a r)) Nothing (arenaWords a) (arenaWords b) q → after b (bytes 4 q) (Refused R.NoRoom) ≡ grantCall a r n
 unfolding granting
-grant-none a r b q n e l s o m =
-    left-is a b q (grant (need n) (heapIn a r)) Nothing (Refused R.NoRoom) o m ∙ sym (granted-none a (grant (need n) (heapIn a r)) (m .says))
-    ∙ on-sound a r (granting a n) e s ∙ grant-small a r n l
+grant-none a r b q n e l s o m = gave-none a b q (grant (need n) (heapIn a r)) o m ∙ request-sound a r n (granting a n) e l s ∙ grant-is a r n
 
 pub grant-at : (a r b q : List ℕ) (n c u : ℕ) → shape? a r ≡ true → ltb mostRequest n ≡ false → sound? (auditOf (arenaWords a) (wordsOf r)) ≡ true → Octets b
     → Gave Got (grant (need n) (heapIn a r)) (At c) (arenaWords a) (arenaWords b) q → u ≡ usable (sizeOf (heapOf (grant (need n) (heapIn a r))) c)
     → after b (bytes 4 q) (Granted (c + 16) u) ≡ grantCall a r n
 unfolding granting
-grant-at a r b q n c u e l s o m z =
-    left-is a b q (grant (need n) (heapIn a r)) (At c) (Granted (c + 16) u) o m
-    ∙ ap (λ (v : ℕ). left a (heapOf (grant (need n) (heapIn a r))) (writes (grant (need n) (heapIn a r))) (Granted (c + 16) v)) z
-    ∙ sym (granted-at a (grant (need n) (heapIn a r)) c (m .says))
-    ∙ on-sound a r (granting a n) e s ∙ grant-small a r n l
+grant-at a r b q n c u e l s o m z = gave-at a b q (grant (need n) (heapIn a r)) c u o m z ∙ request-sound a r n (granting a n) e l s ∙ grant-is a r n
 
 -- ---- release
 releasing : (a r : List ℕ) (m : ℕ) → Heap → After
-releasing a r m h =
-    elim (eqb m 0) [
-      | true ↦ after a r Done
-      | false ↦ elim (both (leb 16 m) (live? h (m - 16))) [ true ↦ done a (release (m - 16) h) | false ↦ refused a r R.NotLive ]
-    ]
+releasing a r m h = elim (eqb m 0) [ true ↦ after a r Done | false ↦ onLive a r m h (done a (release (m - 16) h)) ]
 
 release-is : (a r : List ℕ) (m : ℕ) → onSound a r (releasing a r m) ≡ releaseCall a r m
 unfolding releaseCall releasing
@@ -193,33 +212,79 @@ release-shape a r m e = on-shape a r (releasing a r m) e ∙ release-is a r m
 pub release-unsound : (a r : List ℕ) (m : ℕ) → shape? a r ≡ true → sound? (auditOf (arenaWords a) (wordsOf r)) ≡ false → after a r (Refused R.Unsound) ≡ releaseCall a r m
 release-unsound a r m e s = on-unsound a r (releasing a r m) e s ∙ release-is a r m
 
-pub release-null : (a r : List ℕ) (m : ℕ) → shape? a r ≡ true → sound? (auditOf (arenaWords a) (wordsOf r)) ≡ true → eqb m 0 ≡ true → after a r Done ≡ releaseCall a r m
+-- null's test
+null-test : (a r : List ℕ) (m : ℕ) (t : Bool) → eqb m 0 ≡ t
+    → _≡_ {A = After} (elim t [ true ↦ after a r Done | false ↦ onLive a r m (heapIn a r) (done a (release (m - 16) (heapIn a r))) ]) (releasing a r m (heapIn a r))
 unfolding releasing
-release-null a r m e s z =
-    ap (λ (t : Bool). elim t [
-      | true ↦ after a r Done
-      | false ↦ elim (both (leb 16 m) (live? (heapIn a r) (m - 16))) [ true ↦ done a (release (m - 16) (heapIn a r)) | false ↦ refused a r R.NotLive ]
-    ]) (sym z)
-    ∙ on-sound a r (releasing a r m) e s ∙ release-is a r m
+null-test a r m t z =
+    ap (λ (x : Bool). elim x [ true ↦ after a r Done | false ↦ onLive a r m (heapIn a r) (done a (release (m - 16) (heapIn a r))) ]) (sym z)
 
--- past null's test
-past-null : (a r : List ℕ) (m : ℕ) (t : Bool) → eqb m 0 ≡ false → both (leb 16 m) (live? (heapIn a r) (m - 16)) ≡ t
-    → elim t [ true ↦ done a (release (m - 16) (heapIn a r)) | false ↦ refused a r R.NotLive ] ≡ releasing a r m (heapIn a r)
-unfolding releasing
-past-null a r m t z l =
-    ap (λ (x : Bool). elim x [ true ↦ done a (release (m - 16) (heapIn a r)) | false ↦ refused a r R.NotLive ]) (sym l)
-    ∙ ap (λ (t : Bool). elim t [
-      | true ↦ after a r Done
-      | false ↦ elim (both (leb 16 m) (live? (heapIn a r) (m - 16))) [ true ↦ done a (release (m - 16) (heapIn a r)) | false ↦ refused a r R.NotLive ]
-    ]) (sym z)
+pub release-null : (a r : List ℕ) (m : ℕ) → shape? a r ≡ true → sound? (auditOf (arenaWords a) (wordsOf r)) ≡ true → eqb m 0 ≡ true → after a r Done ≡ releaseCall a r m
+release-null a r m e s z = null-test a r m true z ∙ on-sound a r (releasing a r m) e s ∙ release-is a r m
 
 pub release-dead : (a r : List ℕ) (m : ℕ) → shape? a r ≡ true → sound? (auditOf (arenaWords a) (wordsOf r)) ≡ true → eqb m 0 ≡ false
     → both (leb 16 m) (live? (heapIn a r) (m - 16)) ≡ false → after a r (Refused R.NotLive) ≡ releaseCall a r m
-release-dead a r m e s z l = past-null a r m false z l ∙ on-sound a r (releasing a r m) e s ∙ release-is a r m
+release-dead a r m e s z l =
+    live-no a r m (heapIn a r) (done a (release (m - 16) (heapIn a r))) l ∙ null-test a r m false z ∙ on-sound a r (releasing a r m) e s ∙ release-is a r m
+
+-- the block is live
+pub release-live : (a r : List ℕ) (m : ℕ) → shape? a r ≡ true → sound? (auditOf (arenaWords a) (wordsOf r)) ≡ true → eqb m 0 ≡ false
+    → both (leb 16 m) (live? (heapIn a r) (m - 16)) ≡ true → done a (release (m - 16) (heapIn a r)) ≡ releaseCall a r m
+release-live a r m e s z l =
+    live-yes a r m (heapIn a r) (done a (release (m - 16) (heapIn a r))) l ∙ null-test a r m false z ∙ on-sound a r (releasing a r m) e s ∙ release-is a r m
 
 pub release-done : (a r b q : List ℕ) (m g : ℕ) → shape? a r ≡ true → sound? (auditOf (arenaWords a) (wordsOf r)) ≡ true → eqb m 0 ≡ false
     → both (leb 16 m) (live? (heapIn a r) (m - 16)) ≡ true → Octets b → Gave ℕ (release (m - 16) (heapIn a r)) g (arenaWords a) (arenaWords b) q
     → after b (bytes 4 q) Done ≡ releaseCall a r m
 release-done a r b q m g e s z l o k =
-    left-is a b q (release (m - 16) (heapIn a r)) g Done o k ∙ sym (done-is a (release (m - 16) (heapIn a r)))
-    ∙ past-null a r m true z l ∙ on-sound a r (releasing a r m) e s ∙ release-is a r m
+    left-is a b q (release (m - 16) (heapIn a r)) g Done o k ∙ sym (done-is a (release (m - 16) (heapIn a r))) ∙ release-live a r m e s z l
+
+-- ---- resize: null is a grant; else a new length of 0 is a release
+pub resize-null : (a r : List ℕ) (m n : ℕ) → eqb m 0 ≡ true → grantCall a r n ≡ resizeCall a r m n
+unfolding resizeCall
+resize-null a r m n z = rw (z, resizeCall)
+
+pub resize-zero : (a r : List ℕ) (m n : ℕ) → eqb m 0 ≡ false → eqb n 0 ≡ true → releaseCall a r m ≡ resizeCall a r m n
+unfolding resizeCall
+resize-zero a r m n z k = rw (z, resizeCall) (rw k)
+
+-- ---- else
+resizing : (a r : List ℕ) (m n : ℕ) → Heap → After
+resizing a r m n h = onLive a r m h (granted a (resize (m - 16) (need n) h))
+
+module _ (a r : List ℕ) (m n : ℕ) (z : eqb m 0 ≡ false) (k : eqb n 0 ≡ false) where
+  resize-is : onRequest a r n (resizing a r m n) ≡ resizeCall a r m n
+  unfolding resizeCall resizing
+  resize-is = rw (z, resizeCall) (rw k)
+
+  pub resize-shape : shape? a r ≡ false → after a r (Refused R.Shape) ≡ resizeCall a r m n
+  resize-shape e = request-shape a r n (resizing a r m n) e ∙ resize-is
+
+  module _ (e : shape? a r ≡ true) where
+    pub resize-request : ltb mostRequest n ≡ true → after a r (Refused R.Request) ≡ resizeCall a r m n
+    resize-request l = request-large a r n (resizing a r m n) e l ∙ resize-is
+
+    module _ (l : ltb mostRequest n ≡ false) where
+      pub resize-unsound : sound? (auditOf (arenaWords a) (wordsOf r)) ≡ false → after a r (Refused R.Unsound) ≡ resizeCall a r m n
+      resize-unsound s = request-unsound a r n (resizing a r m n) e l s ∙ resize-is
+
+      module _ (s : sound? (auditOf (arenaWords a) (wordsOf r)) ≡ true) where
+        pub resize-dead : both (leb 16 m) (live? (heapIn a r) (m - 16)) ≡ false → after a r (Refused R.NotLive) ≡ resizeCall a r m n
+        unfolding resizing
+        resize-dead v =
+            live-no a r m (heapIn a r) (granted a (resize (m - 16) (need n) (heapIn a r))) v ∙ request-sound a r n (resizing a r m n) e l s ∙ resize-is
+
+        -- the block is live
+        module _ (v : both (leb 16 m) (live? (heapIn a r) (m - 16)) ≡ true) where
+          pub resize-live : granted a (resize (m - 16) (need n) (heapIn a r)) ≡ resizeCall a r m n
+          unfolding resizing
+          resize-live =
+              live-yes a r m (heapIn a r) (granted a (resize (m - 16) (need n) (heapIn a r))) v ∙ request-sound a r n (resizing a r m n) e l s ∙ resize-is
+
+          pub resize-none : (b q : List ℕ) → Octets b → Gave Got (resize (m - 16) (need n) (heapIn a r)) Nothing (arenaWords a) (arenaWords b) q
+              → after b (bytes 4 q) (Refused R.NoRoom) ≡ resizeCall a r m n
+          resize-none b q o g = gave-none a b q (resize (m - 16) (need n) (heapIn a r)) o g ∙ resize-live
+
+          pub resize-at : (b q : List ℕ) (c u : ℕ) → Octets b → Gave Got (resize (m - 16) (need n) (heapIn a r)) (At c) (arenaWords a) (arenaWords b) q
+              → u ≡ usable (sizeOf (heapOf (resize (m - 16) (need n) (heapIn a r))) c) → after b (bytes 4 q) (Granted (c + 16) u) ≡ resizeCall a r m n
+          resize-at b q c u o g w = gave-at a b q (resize (m - 16) (need n) (heapIn a r)) c u o g w ∙ resize-live

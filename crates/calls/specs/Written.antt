@@ -2,6 +2,7 @@
 -- reads is an offset, a size or none, and so tiled its width; a word that it does not read may be cut. Assumes nothing.
 use mathlib.Core.Path.{_≡_, ap, _∙_}
 use mathlib.Core.List.{List, [], _∷_}
+use mathlib.Core.Logic.{⊎-elim}
 use Prim.Native.Nat.{ℕ, _+_, _*_, _≤_}
 use native.Mathlib.Omega.{arith}
 use lib.ListN.{length, getD}
@@ -10,13 +11,14 @@ use Rattle.le.specs.Arena.{arenaWords}
 use Rattle.sizes.specs.Limits.{none64, none32, recordWords}
 use Rattle.sizes.specs.Layout.{prevWord, sizeWord, fwdWord, backWord, lengthWord, topWord, remainderWord, cacheHead, cacheCount, fastHead, binFirst, binLast}
 use Rattle.machine.specs.Lists.{hd, lst, cnt}
-use Rattle.machine.specs.Count.{cnt-here, cnt-there, cnt-le-all}
-use Rattle.machine.specs.Heap.{Tile, tile, Heap, topSize, stack, cache, fast, fastAt, bin, binned, endFrom, topOf, starts, recordOf}
+use Rattle.machine.specs.Count.{ind-same, cnt-here, cnt-there, cnt-le-all}
+use Rattle.machine.specs.Heap.{Tile, tile, Heap, topSize, stack, cache, fast, fastAt, bin, binned, endFrom, topOf, starts, sizeOf, recordOf}
 use Rattle.machine.specs.Calls.{heapIn, wordsOf}
 use Rattle.sound.specs.Relation.{all, tiled, tilesAt, chain, links, Mem, flags, Good, Sound}
 use Rattle.sound.specs.Tiles.{tiled-split, end-le, start}
-use Rattle.sound.specs.Frames.{end-all}
+use Rattle.sound.specs.Frames.{end-all, starts-all}
 use Rattle.sound.specs.Edits.{tiled-tiles}
+use Rattle.sound.specs.Spares.{clear-of}
 use Rattle.sound.specs.RecordOf.{record-words, record-ext}
 use Rattle.audit.specs.Exact.{audit-read}
 use Rattle.calls.specs.Bytes.{cut, getD-cut, length-cut, words-cut, arenaWords-cut}
@@ -70,6 +72,12 @@ module _ (h : Heap) (g : Good h) where
   top-most =
       let f = tiled-split (h .tiles) (tile (topSize h) 1 0 ∷ []) (g .shape .sizes) in
       omega (arith, f .1 .1)
+
+  pub chunk-most : (x : ℕ) → 1 ≤ cnt x (starts h) → x + sizeOf h x ≤ topOf h
+  chunk-most x m = ⊎-elim
+      (λ l. absurd (omega (arith, start-most x m)))
+      (λ l. ⊎-elim (λ e. absurd (omega (arith, start-most x m))) (λ e. e) l)
+      (clear-of h x (topOf h) (g .shape) m (omega (arith, starts-all h (topOf h), ind-same (topOf h))))
 
   stack-most : (k x : ℕ) → 1 ≤ cnt x (stack h k) → x ≤ 262144
   stack-most k x m = omega (arith, start-most x (omega (arith, g .shape .own x, cnt-le-all x (h .stacks) k)), top-most, g .shape .small)

@@ -14,7 +14,7 @@ use sizes::Chunk;
 use sizes::Needed;
 
 // The answer where the chunk c was found: its mem, and its usable bytes as its size word has them after the steps.
-fn granted_at(a: &[u8], c: Chunk) -> Answer
+pub fn granted_at(a: &[u8], c: Chunk) -> Answer
     requires { ⌜ Stands (now a) (c .0) ⌝ }
     ensures { λ x. ⌜ x ≡ Answer.Granted (memOf (c .0)) (usable (sizeAt (arenaWords (now (a .entry))) (c .0))) ⌝ }
 {

@@ -7,12 +7,12 @@ pub use links::word_of;
 use sizes::Chunk;
 use sizes::SizeWord;
 ghost use mathlib.Core.Path.{_≡_};
-ghost use Prim.Native.Nat.{_+_, _%_, _≤_, _<_, _^_};
+ghost use Prim.Native.Nat.{_+_, _*_, _/_, _%_, _≤_, _<_, _^_};
 ghost use lib.ListN.{length, getD};
 ghost use Rattle.le.specs.Arena.{arenaWords};
 ghost use Rattle.sizes.specs.Layout.{prevWord, sizeWord, fwdWord, backWord};
 ghost use Rattle.sizes.specs.SizeWord.{bit};
-ghost use Rattle.machine.specs.Writes.{size, note, fwd, back, put};
+ghost use Rattle.machine.specs.Writes.{size, note, fwd, back, copy, put};
 ghost use Rattle.machine.specs.View.{sizeAt};
 
 // A link of the arena: a chunk's offset, or NONE64 for the end.
@@ -55,6 +55,14 @@ pub fn back_at(a: &[u8], c: Chunk) -> Link
     Link(le::word(a, (c.0 + 24) as usize))
 }
 
+// The usable word i of c; the last is the previous size that is noted behind c.
+pub fn usable_word_at(a: &[u8], c: Chunk, i: u64) -> u64
+    requires { ⌜ (c .0 % 8 ≡ 0) × (c .0 + 24 + 8 * i ≤ length (now a)) ⌝ }
+    ensures { λ r. ⌜ r ≡ getD (arenaWords (now (a .entry))) (c .0 / 8 + (2 + i)) 0 ⌝ }
+{
+    le::word(a, (c.0 + 16 + 8 * i) as usize)
+}
+
 // The size word of c becomes that of the size s and P.
 pub fn set_size(a: &mut [u8], c: Chunk, s: u64, p: bool)
     requires { ⌜ (c .0 % 8 ≡ 0) × (c .0 + 16 ≤ length (now a)) × (s + 1 < 2 ^ 64) ⌝ }
@@ -83,4 +91,13 @@ pub fn set_back(a: &mut [u8], c: Chunk, x: Link)
     ensures { λ _. ⌜ arenaWords (now (a .exit)) ≡ put (back (c .0) (x .0)) (arenaWords (now (a .entry))) ⌝ }
 {
     le::set_word(a, (c.0 + 24) as usize, x.0);
+}
+
+// The usable word i of d becomes that of c.
+pub fn copy_usable_word(a: &mut [u8], d: Chunk, c: Chunk, i: u64)
+    requires { ⌜ (d .0 % 8 ≡ 0) × (c .0 % 8 ≡ 0) × (d .0 + 24 + 8 * i ≤ length (now a)) × (c .0 + 24 + 8 * i ≤ length (now a)) ⌝ }
+    ensures { λ _. ⌜ arenaWords (now (a .exit)) ≡ put (copy (d .0) (c .0) i) (arenaWords (now (a .entry))) ⌝ }
+{
+    let v = usable_word_at(a, c, i);
+    le::set_word(a, (d.0 + 16 + 8 * i) as usize, v);
 }

@@ -193,7 +193,7 @@ new-gave h w c z b new? v q q′ T l n m e =
       rec = e ∙ ap (λ (r : List ℕ). set r remainderWord (c + b)) (m .rec) ∙ sym (record-withRemainder (heapOf (split c b h)) (c + b));
     }))
 
-next-start : (h : Heap) (a l : List Tile) (t u : Tile) → h .tiles ≡ a ++ t ∷ u ∷ l → 1 ≤ cnt (endFrom 0 a + t .size) (starts h)
+pub next-start : (h : Heap) (a l : List Tile) (t u : Tile) → h .tiles ≡ a ++ t ∷ u ∷ l → 1 ≤ cnt (endFrom 0 a + t .size) (starts h)
 next-start h a l t u e =
     let n : ℕ = endFrom 0 a + t .size in
     omega (arith, ap (λ (k : List Tile). cnt n (startsFrom 0 k)) e, starts-append 0 a (t ∷ u ∷ l) n, ind-same n)

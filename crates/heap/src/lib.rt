@@ -1,7 +1,7 @@
-// The calls as C sees them: arena bytes, control record bytes and a number, answered by three numbers. Each is the machine's call on the same bytes, with
+// The calls as C sees them: arena bytes, control record bytes and a number or two, answered by three numbers. Each is the machine's call on the same bytes, with
 // document 01's numbers for its answer; include/heap.h says the same in C's words.
 ghost use mathlib.Core.Path.{_≡_};
-ghost use Rattle.machine.specs.Calls.{faultNumbers, listNumbers, openCall, grantCall, releaseCall, settleCall, auditCall};
+ghost use Rattle.machine.specs.Calls.{faultNumbers, listNumbers, openCall, grantCall, releaseCall, resizeCall, settleCall, auditCall};
 ghost use Rattle.heap.specs.Exported.{back, numbered};
 use machine::Audited;
 use machine::HeapAnswer;
@@ -85,6 +85,14 @@ pub extern "C" fn heap_release(arena: &mut [u8], control: &mut [u8], mem: u64) -
     ensures { λ x. ⌜ back (now (arena .exit)) (now (control .exit)) x ≡ numbered (releaseCall (now (arena .entry)) (now (control .entry)) mem) ⌝ }
 {
     let x = calls::release(arena, control, mem);
+    answer_numbers(x)
+}
+
+#[no_mangle]
+pub extern "C" fn heap_resize(arena: &mut [u8], control: &mut [u8], mem: u64, n: u64) -> HeapAnswer
+    ensures { λ x. ⌜ back (now (arena .exit)) (now (control .exit)) x ≡ numbered (resizeCall (now (arena .entry)) (now (control .entry)) mem n) ⌝ }
+{
+    let x = calls::resize(arena, control, mem, n);
     answer_numbers(x)
 }
 

@@ -1,4 +1,4 @@
--- Byte by byte, keeping 10 bytes of a line, prints what line by line prints. Assumes nothing.
+-- Byte by byte, keeping 18 bytes of a line, prints what line by line prints. Assumes nothing.
 use mathlib.Core.Path.{_≡_, refl, sym, ap, _∙_}
 use mathlib.Core.List.{List, [], _∷_, _++_}
 use mathlib.Core.Bool.{Bool, true, false}
@@ -7,7 +7,7 @@ use lib.Dec.{eqb}
 use lib.ListN.{take}
 use Rattle.machine.specs.Calls.{After, after}
 use Rattle.script.specs.Rules.{inPlace?}
-use Rattle.script.specs.Grammar.{lineOf}
+use Rattle.script.specs.Grammar.{lineOf, keptBytes}
 use Rattle.script.specs.declared.Line.{Line}
 use Rattle.script_reader.specs.GrammarLaws.{lineOf-take}
 use Rattle.script_format.specs.Format.{newline, questionText, header}
@@ -19,8 +19,8 @@ take-take zero p q = refl
 take-take (suc n) [] q = refl
 take-take (suc n) (x ∷ p) q = ap (λ (l : List ℕ). x ∷ l) (take-take n p q)
 
--- a line is run by its meaning alone, which its first 10 bytes decide
-lineStep-take : (a r t : List ℕ) (k n : ℕ) → lineStep (run a r (take 10 t) k n false) ≡ lineStep (run a r t k n false)
+-- a line is run by its meaning alone, which its first 18 bytes decide
+lineStep-take : (a r t : List ℕ) (k n : ℕ) → lineStep (run a r (take keptBytes t) k n false) ≡ lineStep (run a r t k n false)
 unfolding lineStep placedStep
 lineStep-take a r t k n = ap (λ (l : Line). placedStep (run a r t k n false) (counted k) l) (lineOf-take t)
 
@@ -54,26 +54,26 @@ ended-lines [] a r p k n = refl
 ended-lines (l ∷ ls) a r p k n = refl
 
 -- the idea: the kept bytes stand for the bytes p of the line so far
-pub bytes-lines : (t p : List ℕ) (a r : List ℕ) (k n : ℕ) → printedBytes t (run a r (take 10 p) k n false) ≡ printed (linesFrom p t) (run a r [] k n false)
+pub bytes-lines : (t p : List ℕ) (a r : List ℕ) (k n : ℕ) → printedBytes t (run a r (take keptBytes p) k n false) ≡ printed (linesFrom p t) (run a r [] k n false)
 unfolding printedBytes byteStep endStep printed linesFrom
 bytes-lines [] [] a r k n = refl
 bytes-lines [] (b ∷ p) a r k n = ap (λ (s : Step). andThen s (λ _. [])) (lineStep-take a r (b ∷ p) k n)
 bytes-lines (b ∷ t) p a r k n = go (λ q a r k n. bytes-lines t q a r k n) (eqb b newline)
   where
     Rest : Type 0
-    Rest = (q a r : List ℕ) (k n : ℕ) → printedBytes t (run a r (take 10 q) k n false) ≡ printed (linesFrom q t) (run a r [] k n false)
+    Rest = (q a r : List ℕ) (k n : ℕ) → printedBytes t (run a r (take keptBytes q) k n false) ≡ printed (linesFrom q t) (run a r [] k n false)
 
     on : Rest → (a r : List ℕ) (k n : ℕ) (e : Bool) → printedBytes t (run a r [] k n e) ≡ printed (linesFrom [] t) (run a r [] k n e)
     on rest a r k n true = ended-bytes t a r [] k n ∙ sym (ended-lines (linesFrom [] t) a r [] k n)
     on rest a r k n false = rest [] a r k n
 
     go : Rest → (x : Bool)
-        → andThen (elim x [ true ↦ lineStep (run a r (take 10 p) k n false) | false ↦ step (run a r (take 10 (take 10 p ++ (b ∷ []))) k n false) [] ]) (printedBytes t)
+        → andThen (elim x [ true ↦ lineStep (run a r (take keptBytes p) k n false) | false ↦ step (run a r (take keptBytes (take keptBytes p ++ (b ∷ []))) k n false) [] ]) (printedBytes t)
         ≡ printed (elim x [ true ↦ p ∷ linesFrom [] t | false ↦ linesFrom (p ++ (b ∷ [])) t ]) (run a r [] k n false)
     go rest true =
         ap (λ (s : Step). andThen s (printedBytes t)) (lineStep-take a r p k n)
         ∙ line-then (printedBytes t) (printed (linesFrom [] t)) (on rest) a r p k n
-    go rest false = rw (take-take 10 p (b ∷ [])) (rest (p ++ (b ∷ [])) a r k n)
+    go rest false = rw (take-take keptBytes p (b ∷ [])) (rest (p ++ (b ∷ [])) a r k n)
 
 -- heaplog, as the code goes
 pub heaplog-bytes : (text : List ℕ) → header ++ printedBytes text beforeAll ≡ heaplog text

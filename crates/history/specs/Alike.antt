@@ -8,6 +8,7 @@ use Prim.Native.Nat.{ℕ, _+_, _-_, _%_}
 use native.Mathlib.Omega.{arith}
 use lib.Dec.{eqb, leb}
 use lib.ListN.{set}
+use borrow.Author.Tests.{eqb-true}
 use Rattle.le.specs.Number.{bytes}
 use Rattle.le.specs.Arena.{arenaWords}
 use Rattle.sizes.specs.Sizes.{need, usable}
@@ -17,6 +18,7 @@ use Rattle.machine.specs.Heap.{Heap, live?, sizeOf, recordOf}
 use Rattle.machine.specs.Writes.{Ran, ran, heapOf, apply}
 use Rattle.machine.specs.Release.{release, settle}
 use Rattle.machine.specs.Grant.{grant}
+use Rattle.machine.specs.Resize.{resize}
 use Rattle.machine.specs.Calls as C
 use Rattle.machine.specs.declared.{Got.Got, Got.the-variants.At, Got.the-variants.Nothing, Answer.Answer}
 use Rattle.machine.specs.declared.Answer.the-variants.{Done, Granted, Refused}
@@ -26,27 +28,33 @@ use Rattle.sound.specs.Tiles.{lt-or-le}
 use Rattle.sound.specs.Ends.{Ends}
 use Rattle.sound.specs.Release.{both-true}
 use Rattle.sound.specs.Live.{live-loose}
-use Rattle.history.specs.Histories.{Event, Grant, Release, Settle, Store, Block, holds?, State, state, heapAt, granted, released, settled, next, run, answerOf, answerTo, answers}
+use Rattle.history.specs.Histories.{Event, Grant, Release, Resize, Settle, Store, Block, holds?, drop, State, state, heapAt, granted, released, resized, settled, next, run, answerOf, answerTo, answers}
 use Rattle.calls.specs.Written.{written-read}
-use Rattle.calls.specs.Remainder.{Fine, grant-fine, release-fine, settle-fine}
+use Rattle.calls.specs.Remainder.{Fine, grant-fine, release-fine, resize-fine, settle-fine}
 use Rattle.history.specs.Ready.{Ready, ReadyAt, ready-fine}
-use Rattle.history.specs.Called.{grant-large, grant-called, release-called, settle-called}
+use Rattle.history.specs.Called.{grant-large, grant-called, release-called, settle-called, Way, Null, Zero, Large, Dead, Through, way, resizeBy, resize-called}
 use Rattle.history.specs.Stores.{store-view}
-use Rattle.history.specs.Runs.{next-ready}
+use Rattle.history.specs.Runs.{resized-null, resized-zero, next-ready}
 
--- what a grant's steps answer
+-- what a grant's steps answer, and a resize's
 abbrev pub said : Ran Got → Answer
 said (ran h ws (At c)) = Granted (c + 16) (usable (sizeOf h c))
 said (ran h ws Nothing) = Refused N.NoRoom
 
--- of sound heaps that Q holds of, the live chunks are the same, a grant answers the same, and Q holds after every step, given what M asks of the event and
--- the two heaps before it
+-- of sound heaps that Q holds of, the live chunks are the same, a grant and a resize answer the same, and Q holds after every step, given what M asks of the
+-- event and the two heaps before it. What M asks of a resize is what it asks of the grant or the release that it is, where the mem is null or the length 0
 pub record Steady (Q : Heap → Heap → Type 0) (M : Event → Heap → Heap → Type 0) : Type 0 where
   pub live : (h g : Heap) → Good h → Good g → Q h g → (c : ℕ) → live? h c ≡ live? g c
   pub answer : (h g : Heap) → Good h → Good g → Q h g → (n : ℕ) → M (Grant n) h g → said (grant (need n) h) ≡ said (grant (need n) g)
   pub grants : (h g : Heap) → Good h → Good g → Q h g → (n : ℕ) → M (Grant n) h g → Q (heapOf (grant (need n) h)) (heapOf (grant (need n) g))
   pub releases : (h g : Heap) → Good h → Good g → Q h g → (m : ℕ) → M (Release m) h g → live? h (m - 16) ≡ true
       → Q (heapOf (release (m - 16) h)) (heapOf (release (m - 16) g))
+  pub resized : (h g : Heap) → Good h → Good g → Q h g → (m n : ℕ) → M (Resize m n) h g → live? h (m - 16) ≡ true
+      → said (resize (m - 16) (need n) h) ≡ said (resize (m - 16) (need n) g)
+  pub resizes : (h g : Heap) → Good h → Good g → Q h g → (m n : ℕ) → M (Resize m n) h g → live? h (m - 16) ≡ true
+      → Q (heapOf (resize (m - 16) (need n) h)) (heapOf (resize (m - 16) (need n) g))
+  pub nulls : (h g : Heap) (n : ℕ) → M (Resize 0 n) h g → M (Grant n) h g
+  pub zeros : (h g : Heap) (m : ℕ) → M (Resize m 0) h g → M (Release m) h g
   pub settles : (h g : Heap) → Good h → Good g → Q h g → M Settle h g → Q (heapOf (settle h)) (heapOf (settle g))
 
 abbrev pub Alike : (Heap → Heap → Type 0) → State → State → Type 0
@@ -77,6 +85,13 @@ module _ (Q : Heap → Heap → Type 0) (a a′ : List ℕ) where
       → (answerOf (C.done a x) ≡ answerOf (C.done a′ x′)) × Alike Q (released m bs (C.done a x)) (released m bs (C.done a′ x′))
   release-alike m bs (ran g ws y) (ran g′ ws′ y′) E E′ q =
       (refl, (read g g′ (apply ws (arenaWords a)) (apply ws′ (arenaWords a′)) (E .now) (E .mem) (E′ .now) (E′ .mem) q, refl))
+
+  resize-alike : (m : ℕ) (bs : List Block) (x x′ : Ran Got) → Ends x (arenaWords a) Fine → Ends x′ (arenaWords a′) Fine → said x ≡ said x′ → Q (heapOf x) (heapOf x′)
+      → (answerOf (C.granted a x) ≡ answerOf (C.granted a′ x′)) × Alike Q (resized m bs (C.granted a x)) (resized m bs (C.granted a′ x′))
+  resize-alike m bs (ran g ws (At c)) (ran g′ ws′ (At c′)) E E′ e q = grant-alike (drop m bs) (ran g ws (At c)) (ran g′ ws′ (At c′)) E E′ e q
+  resize-alike m bs (ran g ws (At c)) (ran g′ ws′ Nothing) E E′ e q = absurd (let z : _≡_ {A = ℕ} 0 1 = cc in omega arith)
+  resize-alike m bs (ran g ws Nothing) (ran g′ ws′ (At c′)) E E′ e q = absurd (let z : _≡_ {A = ℕ} 0 1 = cc in omega arith)
+  resize-alike m bs (ran g ws Nothing) (ran g′ ws′ Nothing) E E′ e q = grant-alike bs (ran g ws Nothing) (ran g′ ws′ Nothing) E E′ e q
 
   settle-alike : {A : Type 0} (bs : List Block) (x x′ : Ran A) → Ends x (arenaWords a) Fine → Ends x′ (arenaWords a′) Fine → Q (heapOf x) (heapOf x′)
       → (answerOf (C.done a x) ≡ answerOf (C.done a′ x′)) × Alike Q (settled bs (C.done a x)) (settled bs (C.done a′ x′))
@@ -120,6 +135,9 @@ module _ (Q : Heap → Heap → Type 0) (M : Event → Heap → Heap → Type 0)
       (settle-fine h′ (arenaWords a′) (ready-fine a′ r′ bs R′) (R′ .sound .mem)) (K .settles h h′ (R .sound .good) (R′ .sound .good) q k))
 
   -- release, by its tests
+  live-same : (m : ℕ) → both (leb 16 m) (live? h′ (m - 16)) ≡ both (leb 16 m) (live? h (m - 16))
+  live-same m = ap (both (leb 16 m)) (sym (K .live h h′ (R .sound .good) (R′ .sound .good) q (m - 16)))
+
   freed : ℕ → List ℕ → List ℕ → Heap → Bool → C.After
   freed m a r h t = elim t [ true ↦ C.done a (release (m - 16) h) | false ↦ C.refused a r N.NotLive ]
 
@@ -141,8 +159,7 @@ module _ (Q : Heap → Heap → Type 0) (M : Event → Heap → Heap → Type 0)
   unfolding null
   null-both m k true e = (refl, (q, refl))
   null-both m k false e =
-      let l : both (leb 16 m) (live? h′ (m - 16)) ≡ both (leb 16 m) (live? h (m - 16)) = ap (both (leb 16 m)) (sym (K .live h h′ (R .sound .good) (R′ .sound .good) q (m - 16))) in
-      subst (λ (t : Bool). Both (released m) (freed m a r h (both (leb 16 m) (live? h (m - 16)))) (freed m a′ r′ h′ t)) (sym l)
+      subst (λ (t : Bool). Both (released m) (freed m a r h (both (leb 16 m) (live? h (m - 16)))) (freed m a′ r′ h′ t)) (sym (live-same m))
       (freed-both m k (both (leb 16 m) (live? h (m - 16))) refl)
 
   release-both : (m : ℕ) → M (Release m) h h′ → Both (released m) (C.releaseCall a r m) (C.releaseCall a′ r′ m)
@@ -150,6 +167,43 @@ module _ (Q : Heap → Heap → Type 0) (M : Event → Heap → Heap → Type 0)
   release-both m k =
       by (released m) (C.releaseCall a r m) (null m a r h (eqb m 0)) (C.releaseCall a′ r′ m) (null m a′ r′ h′ (eqb m 0))
       (release-called a r (R .lent) (R .sound) m) (release-called a′ r′ (R′ .lent) (R′ .sound) m) (null-both m k (eqb m 0) refl)
+
+  -- resize, by its ways: the other heap's is the same
+  same-way : (m n : ℕ) → Way h m n → Way h′ m n
+  same-way m n (Null z) = Null z
+  same-way m n (Zero z k) = Zero z k
+  same-way m n (Large z k l) = Large z k l
+  same-way m n (Dead z k l v) = Dead z k l (live-same m ∙ v)
+  same-way m n (Through z k l v) = Through z k l (live-same m ∙ v)
+
+  -- where two kinds of call leave the same
+  same-left : (f g : List Block → C.After → State) (x x′ : C.After) → f bs x ≡ g bs x → f bs x′ ≡ g bs x′ → Both g x x′ → Both f x x′
+  same-left f g x x′ e e′ k = (k .0, subst (λ (s : State). Alike Q s (f bs x′)) (sym e) (subst (λ (s : State). Alike Q (g bs x) s) (sym e′) (k .1)))
+
+  ways-both : (m n : ℕ) → M (Resize m n) h h′ → (w : Way h m n) → Both (resized m) (resizeBy a r m n w) (resizeBy a′ r′ m n (same-way m n w))
+  unfolding same-way
+  ways-both m n i (Null z) =
+      same-left (resized m) granted (C.grantCall a r n) (C.grantCall a′ r′ n) (resized-null a r bs R m z (C.grantCall a r n)) (resized-null a′ r′ bs R′ m z (C.grantCall a′ r′ n))
+      (grant-both n (K .nulls h h′ n (subst (λ (x : ℕ). M (Resize x n) h h′) (eqb-true m 0 z) i)))
+  ways-both m n i (Zero z k) =
+      same-left (resized m) (released m) (C.releaseCall a r m) (C.releaseCall a′ r′ m) (resized-zero a r bs R m) (resized-zero a′ r′ bs R′ m)
+      (release-both m (K .zeros h h′ m (subst (λ (x : ℕ). M (Resize m x) h h′) (eqb-true n 0 k) i)))
+  ways-both m n i (Large z k l) = (refl, (q, refl))
+  ways-both m n i (Dead z k l v) = (refl, (q, refl))
+  ways-both m n i (Through z k l v) =
+      let F = need-bounds n in
+      let u : live? h (m - 16) ≡ true = both-true (leb 16 m) (live? h (m - 16)) v .1 in
+      let u′ : live? h′ (m - 16) ≡ true = both-true (leb 16 m) (live? h′ (m - 16)) (live-same m ∙ v) .1 in
+      resize-alike Q a a′ m bs (resize (m - 16) (need n) h) (resize (m - 16) (need n) h′)
+      (resize-fine (need n) (F .whole) (F .least) (F .most l) (m - 16) h (arenaWords a) (ready-fine a r bs R) (R .sound .mem) (live-loose h (m - 16) u))
+      (resize-fine (need n) (F .whole) (F .least) (F .most l) (m - 16) h′ (arenaWords a′) (ready-fine a′ r′ bs R′) (R′ .sound .mem) (live-loose h′ (m - 16) u′))
+      (K .resized h h′ (R .sound .good) (R′ .sound .good) q m n i u) (K .resizes h h′ (R .sound .good) (R′ .sound .good) q m n i u)
+
+  resize-both : (m n : ℕ) → M (Resize m n) h h′ → Both (resized m) (C.resizeCall a r m n) (C.resizeCall a′ r′ m n)
+  resize-both m n i =
+      let w : Way h m n = way h m n in
+      by (resized m) (C.resizeCall a r m n) (resizeBy a r m n w) (C.resizeCall a′ r′ m n) (resizeBy a′ r′ m n (same-way m n w))
+      (resize-called a r (R .lent) (R .sound) m n w) (resize-called a′ r′ (R′ .lent) (R′ .sound) m n (same-way m n w)) (ways-both m n i w)
 
   store-both : (p v : ℕ) (t : Bool) → holds? bs p ≡ t → Alike Q (elim t [ true ↦ state (set a p (v % 256)) r bs | false ↦ state a r bs ])
       (elim t [ true ↦ state (set a′ p (v % 256)) r′ bs | false ↦ state a′ r′ bs ])
@@ -164,6 +218,7 @@ module _ (Q : Heap → Heap → Type 0) (M : Event → Heap → Heap → Type 0)
   unfolding next
   same-blocks (Grant n) k = let b = grant-both n k in (ap (λ (x : Answer). x ∷ []) (b .0), b .1)
   same-blocks (Release m) k = let b = release-both m k in (ap (λ (x : Answer). x ∷ []) (b .0), b .1)
+  same-blocks (Resize m n) k = let b = resize-both m n k in (ap (λ (x : Answer). x ∷ []) (b .0), b .1)
   same-blocks Settle k = let b = settle-both k in (ap (λ (x : Answer). x ∷ []) (b .0), b .1)
   same-blocks (Store p v) k = (refl, store-both p v (holds? bs p) refl)
 
@@ -206,6 +261,10 @@ equal-steady = record {
   answer = λ h g G G′ e n i. ap (λ (k : Heap). said (grant (need n) k)) e;
   grants = λ h g G G′ e n i. ap (λ (k : Heap). heapOf (grant (need n) k)) e;
   releases = λ h g G G′ e m i l. ap (λ (k : Heap). heapOf (release (m - 16) k)) e;
+  resized = λ h g G G′ e m n i l. ap (λ (k : Heap). said (resize (m - 16) (need n) k)) e;
+  resizes = λ h g G G′ e m n i l. ap (λ (k : Heap). heapOf (resize (m - 16) (need n) k)) e;
+  nulls = λ h g n i. tt;
+  zeros = λ h g m i. tt;
   settles = λ h g G G′ e i. ap (λ (k : Heap). heapOf (settle k)) e;
 }
 

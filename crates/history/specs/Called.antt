@@ -1,8 +1,9 @@
--- The calls on bytes that are lent and sound: none is refused for shape or soundness, so each is its step on the heap that is read. By the audit's
--- completeness. Assumes nothing.
-use mathlib.Core.Path.{_≡_, ap, _∙_}
+-- The calls on bytes that are lent and sound: none is refused for shape or soundness, so each is its step on the heap that is read, and a resize one of its
+-- ways. By the audit's completeness. Assumes nothing.
+use mathlib.Core.Path.{_≡_, refl, sym, ap, _∙_}
 use mathlib.Core.List.{List, [], _∷_}
 use mathlib.Core.Bool.{Bool, true, false}
+use mathlib.Core.Logic.{⊎-elim}
 use Prim.Native.Nat.{ℕ, _-_, _%_, _≤_, _<_}
 use lib.Dec.{eqb, ltb, leb}
 use lib.ListN.{length}
@@ -16,13 +17,16 @@ use Rattle.machine.specs.Heap.{Heap, live?, opened}
 use Rattle.machine.specs.Writes.{size}
 use Rattle.machine.specs.Release.{release, settle}
 use Rattle.machine.specs.Grant.{grant}
+use Rattle.machine.specs.Resize.{resize}
 use Rattle.machine.specs.Audit.{sound?, auditOf}
-use Rattle.machine.specs.Calls.{After, after, left, shape?, arenaAllowed?, heapIn, wordsOf, onSound, refused, closedRecord, granted, done, openCall, grantCall, releaseCall, settleCall}
+use Rattle.machine.specs.Calls.{After, after, left, shape?, arenaAllowed?, heapIn, wordsOf, onSound, refused, closedRecord, granted, done, openCall, grantCall, releaseCall, resizeCall, settleCall}
 use Rattle.machine.specs.declared.Refusal.the-variants as R
 use Rattle.machine.specs.declared.Answer.the-variants.{Done, Refused}
 use Rattle.sound.specs.Relation.{Sound}
+use Rattle.sound.specs.Tiles.{lt-or-le}
 use Rattle.audit.specs.Exact.{audit-complete}
 use Rattle.calls.specs.Results.{Lent}
+use Rattle.calls.specs.Ways.{resize-null, resize-zero, resize-request, resize-dead, resize-live}
 
 pub lent-shape : (a r : List ℕ) → Lent a r → (eqb (length r) 1572 ≡ true) × (arenaAllowed? (length a) ≡ true)
 lent-shape a r L = (
@@ -45,12 +49,46 @@ open-lent a r L =
     let y : After = after a (bytes 4 closedRecord) (Refused R.Shape) in
     ap (λ (t : Bool). if t (if (arenaAllowed? (length a)) x y) (refused a r R.Shape)) (s .0) ∙ ap (λ (t : Bool). if t x y) (s .1)
 
+-- ---- the ways through a resize of m to n on a heap h: null is a grant; else a new length of 0 is a release; else numbers 2 and 4; else its steps
+pub data Way (h : Heap) (m n : ℕ) : Type 0 where
+  Null : eqb m 0 ≡ true → Way h m n
+  Zero : eqb m 0 ≡ false → eqb n 0 ≡ true → Way h m n
+  Large : eqb m 0 ≡ false → eqb n 0 ≡ false → 262144 < n → Way h m n
+  Dead : eqb m 0 ≡ false → eqb n 0 ≡ false → n ≤ 262144 → both (leb 16 m) (live? h (m - 16)) ≡ false → Way h m n
+  Through : eqb m 0 ≡ false → eqb n 0 ≡ false → n ≤ 262144 → both (leb 16 m) (live? h (m - 16)) ≡ true → Way h m n
+
+pub way : (h : Heap) (m n : ℕ) → Way h m n
+way h m n = null (eqb m 0) refl
+  where
+    live : eqb m 0 ≡ false → eqb n 0 ≡ false → n ≤ 262144 → (t : Bool) → both (leb 16 m) (live? h (m - 16)) ≡ t → Way h m n
+    live z k l true v = Through z k l v
+    live z k l false v = Dead z k l v
+
+    zero : eqb m 0 ≡ false → (t : Bool) → eqb n 0 ≡ t → Way h m n
+    zero z true k = Zero z k
+    zero z false k = ⊎-elim (λ l. Large z k l) (λ l. live z k l (both (leb 16 m) (live? h (m - 16))) refl) (lt-or-le 262144 n)
+
+    null : (t : Bool) → eqb m 0 ≡ t → Way h m n
+    null true z = Null z
+    null false z = zero z (eqb n 0) refl
+
+-- what it comes to in each of them
+abbrev pub resizeBy : (a r : List ℕ) (m n : ℕ) → Way (heapIn a r) m n → After
+resizeBy a r m n (Null z) = grantCall a r n
+resizeBy a r m n (Zero z k) = releaseCall a r m
+resizeBy a r m n (Large z k l) = refused a r R.Request
+resizeBy a r m n (Dead z k l v) = refused a r R.NotLive
+resizeBy a r m n (Through z k l v) = granted a (resize (m - 16) (need n) (heapIn a r))
+
 module _ (a r : List ℕ) (L : Lent a r) (S : Sound (heapIn a r) (arenaWords a) (wordsOf r)) where
+  pub sound-in : sound? (auditOf (arenaWords a) (wordsOf r)) ≡ true
+  sound-in = ap sound? (audit-complete (heapIn a r) (arenaWords a) (wordsOf r) S)
+
   on-sound : (f : Heap → After) → onSound a r f ≡ f (heapIn a r)
   unfolding if
   on-sound f =
       ap (λ (t : Bool). if t (if (sound? (auditOf (arenaWords a) (wordsOf r))) (f (heapIn a r)) (refused a r R.Unsound)) (refused a r R.Shape)) (shape-both a r L)
-      ∙ ap (λ x. if (sound? x) (f (heapIn a r)) (refused a r R.Unsound)) (audit-complete (heapIn a r) (arenaWords a) (wordsOf r) S)
+      ∙ ap (λ (t : Bool). if t (f (heapIn a r)) (refused a r R.Unsound)) sound-in
 
   pub grant-large : (n : ℕ) → 262144 < n → grantCall a r n ≡ refused a r R.Request
   unfolding grantCall if
@@ -84,3 +122,10 @@ module _ (a r : List ℕ) (L : Lent a r) (S : Sound (heapIn a r) (arenaWords a) 
   pub settle-called : settleCall a r ≡ done a (settle (heapIn a r))
   unfolding settleCall
   settle-called = on-sound (λ h. done a (settle h))
+
+  pub resize-called : (m n : ℕ) (w : Way (heapIn a r) m n) → resizeCall a r m n ≡ resizeBy a r m n w
+  resize-called m n (Null z) = sym (resize-null a r m n z)
+  resize-called m n (Zero z k) = sym (resize-zero a r m n z k)
+  resize-called m n (Large z k l) = sym (resize-request a r m n z k (shape-both a r L) (lt-ltb mostRequest n l))
+  resize-called m n (Dead z k l v) = sym (resize-dead a r m n z k (shape-both a r L) (le-ltb mostRequest n l) sound-in v)
+  resize-called m n (Through z k l v) = sym (resize-live a r m n z k (shape-both a r L) (le-ltb mostRequest n l) sound-in v)

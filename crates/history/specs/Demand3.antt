@@ -81,7 +81,7 @@ pub record New (n : ℕ) (s : State) : Type 0 where
   pub told : (a r : List ℕ) → Lent a r → length a ≡ n → (es : List Event) → answers es s ≡ answers es (begin a r)
 
 -- ---- demand 3 of a run of es on newly opened bytes a and r: no call is refused for shape or soundness, the live blocks are those granted and not yet
--- released, and a settle at its end is not refused, leaves nothing cut up, and, where no block is held, a new heap
+-- released (a resized block is both), and a settle at its end is not refused, leaves nothing cut up, and, where no block is held, a new heap
 pub record Demand (a r : List ℕ) (es : List Event) : Type 0 where
   pub fair : AllFair (answers es (begin a r))
   pub live : LiveAt (run es (begin a r))

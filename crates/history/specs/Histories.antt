@@ -7,14 +7,15 @@ use lib.Dec.{eqb, ltb, leb}
 use lib.ListN.{set}
 use Rattle.machine.specs.Lists.{both, either}
 use Rattle.machine.specs.Heap.{Heap}
-use Rattle.machine.specs.Calls.{After, after, heapIn, openCall, grantCall, releaseCall, settleCall}
+use Rattle.machine.specs.Calls.{After, after, heapIn, openCall, grantCall, releaseCall, resizeCall, settleCall}
 use Rattle.machine.specs.declared.Answer.{Answer}
 use Rattle.machine.specs.declared.Answer.the-variants.{Done, Granted, Refused}
 
--- what happens: a call with any number, or a holder's write of a byte at an offset of the arena
+-- what happens: a call with any numbers, or a holder's write of a byte at an offset of the arena. A resize has a mem and the new length
 pub data Event : Type 0 where
   Grant : ℕ → Event
   Release : ℕ → Event
+  Resize : ℕ → ℕ → Event
   Settle : Event
   Store : ℕ → ℕ → Event
 
@@ -63,6 +64,12 @@ released m bs (after a r Done) = state a r (drop m bs)
 released m bs (after a r (Granted n u)) = state a r bs
 released m bs (after a r (Refused x)) = state a r bs
 
+-- a resized block is dropped and the one granted is held instead, moved or not. (Null drops none: no block is held at mem 0)
+abbrev pub resized : ℕ → List Block → After → State
+resized m bs (after a r Done) = state a r (drop m bs)
+resized m bs (after a r (Granted k u)) = state a r (record { mem = k; usable = u } ∷ drop m bs)
+resized m bs (after a r (Refused x)) = state a r bs
+
 abbrev pub settled : List Block → After → State
 settled bs (after a r x) = state a r bs
 
@@ -70,6 +77,7 @@ settled bs (after a r x) = state a r bs
 unfoldable pub next : Event → State → State
 next (Grant n) (state a r bs) = granted bs (grantCall a r n)
 next (Release m) (state a r bs) = released m bs (releaseCall a r m)
+next (Resize m n) (state a r bs) = resized m bs (resizeCall a r m n)
 next Settle (state a r bs) = settled bs (settleCall a r)
 next (Store p v) (state a r bs) = elim (holds? bs p) [ true ↦ state (set a p (v % 256)) r bs | false ↦ state a r bs ]
 
@@ -84,6 +92,7 @@ answerOf (after a r x) = x
 abbrev pub answerTo : Event → State → List Answer
 answerTo (Grant n) (state a r bs) = answerOf (grantCall a r n) ∷ []
 answerTo (Release m) (state a r bs) = answerOf (releaseCall a r m) ∷ []
+answerTo (Resize m n) (state a r bs) = answerOf (resizeCall a r m n) ∷ []
 answerTo Settle (state a r bs) = answerOf (settleCall a r) ∷ []
 answerTo (Store p v) (state a r bs) = []
 

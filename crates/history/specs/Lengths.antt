@@ -12,17 +12,18 @@ use Rattle.machine.specs.Heap.{live?}
 use Rattle.machine.specs.Writes.{Ran, ran, size}
 use Rattle.machine.specs.Release.{release, settle}
 use Rattle.machine.specs.Grant.{grant}
+use Rattle.machine.specs.Resize.{resize}
 use Rattle.machine.specs.Calls as C
 use Rattle.machine.specs.declared.{Got.Got, Got.the-variants.At, Got.the-variants.Nothing}
 use Rattle.machine.specs.declared.Answer.the-variants.{Done}
 use Rattle.machine.specs.declared.Refusal.the-variants as N
 use Rattle.sound.specs.Tiles.{lt-or-le}
-use Rattle.history.specs.Histories.{Event, Grant, Release, Settle, Store, Block, holds?, State, state, arenaIn, granted, released, settled, next, run, begin}
+use Rattle.history.specs.Histories.{Event, Grant, Release, Resize, Settle, Store, Block, holds?, State, state, arenaIn, granted, released, resized, settled, next, run, begin}
 use Rattle.calls.specs.Results.{Lent}
 use Rattle.calls.specs.Left.{left-length}
 use Rattle.history.specs.Ready.{Ready, ReadyAt}
-use Rattle.history.specs.Called.{open-lent, grant-large, grant-called, release-called, settle-called}
-use Rattle.history.specs.Runs.{next-ready}
+use Rattle.history.specs.Called.{open-lent, grant-large, grant-called, release-called, settle-called, Way, Null, Zero, Large, Dead, Through, way, resizeBy, resize-called}
+use Rattle.history.specs.Runs.{resized-null, resized-zero, next-ready}
 
 module _ (a r : List ℕ) (bs : List Block) (R : Ready a r bs) where
   granted-length : (x : Ran Got) → length (arenaIn (granted bs (C.granted a x))) ≡ length a
@@ -50,6 +51,22 @@ module _ (a r : List ℕ) (bs : List Block) (R : Ready a r bs) where
       null false true = released-length m (release (m - 16) (C.heapIn a r))
       null false false = refl
 
+  resized-length : (m : ℕ) (x : Ran Got) → length (arenaIn (resized m bs (C.granted a x))) ≡ length a
+  resized-length m (ran g ws (At c)) = left-length a r (R .lent) ws
+  resized-length m (ran g ws Nothing) = left-length a r (R .lent) ws
+
+  resize-length : (m n : ℕ) → length (arenaIn (resized m bs (C.resizeCall a r m n))) ≡ length a
+  resize-length m n =
+      let w = way (C.heapIn a r) m n in
+      ap (λ (x : C.After). length (arenaIn (resized m bs x))) (resize-called a r (R .lent) (R .sound) m n w) ∙ go w
+    where
+      go : (w : Way (C.heapIn a r) m n) → length (arenaIn (resized m bs (resizeBy a r m n w))) ≡ length a
+      go (Null z) = ap (λ (s : State). length (arenaIn s)) (resized-null a r bs R m z (C.grantCall a r n)) ∙ grant-length n
+      go (Zero z k) = ap (λ (s : State). length (arenaIn s)) (resized-zero a r bs R m) ∙ release-length m
+      go (Large z k l) = refl
+      go (Dead z k l v) = refl
+      go (Through z k l v) = resized-length m (resize (m - 16) (need n) (C.heapIn a r))
+
   settled-length : {A : Type 0} (x : Ran A) → length (arenaIn (settled bs (C.done a x))) ≡ length a
   settled-length (ran g ws y) = left-length a r (R .lent) ws
 
@@ -61,6 +78,7 @@ next-length : (e : Event) (s : State) → ReadyAt s → length (arenaIn (next e 
 unfolding next
 next-length (Grant n) (state a r bs) R = grant-length a r bs R n
 next-length (Release m) (state a r bs) R = release-length a r bs R m
+next-length (Resize m n) (state a r bs) R = resize-length a r bs R m n
 next-length Settle (state a r bs) R =
     ap (λ (x : C.After). length (arenaIn (settled bs x))) (settle-called a r (R .lent) (R .sound)) ∙ settled-length a r bs R (settle (C.heapIn a r))
 next-length (Store p v) (state a r bs) R = store-length a r bs R p v (holds? bs p)

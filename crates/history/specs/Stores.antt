@@ -23,7 +23,8 @@ use Rattle.sound.specs.Relation.{Sound}
 use Rattle.sound.specs.Tiles.{lt-or-le, start}
 use Rattle.sound.specs.Edits.{tiled-tiles, size-16}
 use Rattle.sound.specs.Release.{both-true}
-use Rattle.audit.specs.Frame.{Usable, Agrees, frame-sound, frame-view}
+use Rattle.sound.specs.Usable.{Usable, Agrees}
+use Rattle.audit.specs.Frame.{frame-sound, frame-view}
 use Rattle.history.specs.Histories.{Block, usableAt?, holds?}
 use Rattle.history.specs.Ready.{heldAt, Sized, Holds, Ready, held-loose}
 

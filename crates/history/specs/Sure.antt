@@ -14,17 +14,18 @@ use Rattle.machine.specs.Heap.{Heap, starts, live?, total}
 use Rattle.machine.specs.Writes.{Ran, ran}
 use Rattle.machine.specs.Release.{release, settle}
 use Rattle.machine.specs.Grant.{grant}
+use Rattle.machine.specs.Resize.{resize}
 use Rattle.machine.specs.Calls as C
 use Rattle.machine.specs.declared.{Got.Got, Got.the-variants.At, Got.the-variants.Nothing, Answer.Answer}
 use Rattle.machine.specs.declared.Answer.the-variants.{Done, Refused}
 use Rattle.machine.specs.declared.Refusal.the-variants as N
 use Rattle.sound.specs.Tiles.{lt-or-le, zero-or}
 use Rattle.sound.specs.Live.{loose-live}
-use Rattle.history.specs.Histories.{Event, Grant, Release, Settle, Store, Block, State, state, answerOf, answerTo, answers, next, run, begin}
+use Rattle.history.specs.Histories.{Event, Grant, Release, Resize, Settle, Store, Block, State, state, answerOf, answerTo, answers, next, run, begin}
 use Rattle.calls.specs.Results.{Lent}
 use Rattle.history.specs.Demand3.{held?, LiveAt, Fair, AllFair}
 use Rattle.history.specs.Ready.{heldAt, Ready, ReadyAt}
-use Rattle.history.specs.Called.{grant-large, grant-called, release-called, settle-called}
+use Rattle.history.specs.Called.{grant-large, grant-called, release-called, settle-called, Way, Null, Zero, Large, Dead, Through, way, resizeBy, resize-called}
 use Rattle.history.specs.Runs.{begin-ready, next-ready, run-ready}
 
 -- ---- live is held
@@ -108,15 +109,32 @@ fair-release bs m = go (either (eqb m 0) (held? bs m))
     go true = record { shape = λ e. omega arith; sound = λ e. omega arith }
     go false = record { shape = λ e. omega arith; sound = λ e. omega arith }
 
-pub next-fair : (e : Event) (s : State) → ReadyAt s → AllFair (answerTo e s)
-next-fair (Grant n) (state a r bs) R = (
-  ⊎-elim
+module _ (a r : List ℕ) (bs : List Block) (R : Ready a r bs) where
+  grant-fair : (n : ℕ) → Fair (answerOf (C.grantCall a r n))
+  grant-fair n = ⊎-elim
       (λ l. subst (λ (x : C.After). Fair (answerOf x)) (sym (grant-large a r (R .lent) (R .sound) n l)) (record { shape = λ e. omega arith; sound = λ e. omega arith }))
       (λ l. subst (λ (x : C.After). Fair (answerOf x)) (sym (grant-called a r (R .lent) (R .sound) n l)) (fair-got a (grant (need n) (C.heapIn a r))))
-      (lt-or-le 262144 n),
-  tt,
-)
-next-fair (Release m) (state a r bs) R = (subst Fair (sym (release-answered a r bs R m)) (fair-release bs m), tt)
+      (lt-or-le 262144 n)
+
+  release-fair : (m : ℕ) → Fair (answerOf (C.releaseCall a r m))
+  release-fair m = subst Fair (sym (release-answered a r bs R m)) (fair-release bs m)
+
+  resize-fair : (m n : ℕ) → Fair (answerOf (C.resizeCall a r m n))
+  resize-fair m n =
+      let w = way (C.heapIn a r) m n in
+      subst (λ (x : C.After). Fair (answerOf x)) (sym (resize-called a r (R .lent) (R .sound) m n w)) (go w)
+    where
+      go : (w : Way (C.heapIn a r) m n) → Fair (answerOf (resizeBy a r m n w))
+      go (Null z) = grant-fair n
+      go (Zero z k) = release-fair m
+      go (Large z k l) = record { shape = λ e. omega arith; sound = λ e. omega arith }
+      go (Dead z k l v) = record { shape = λ e. omega arith; sound = λ e. omega arith }
+      go (Through z k l v) = fair-got a (resize (m - 16) (need n) (C.heapIn a r))
+
+pub next-fair : (e : Event) (s : State) → ReadyAt s → AllFair (answerTo e s)
+next-fair (Grant n) (state a r bs) R = (grant-fair a r bs R n, tt)
+next-fair (Release m) (state a r bs) R = (release-fair a r bs R m, tt)
+next-fair (Resize m n) (state a r bs) R = (resize-fair a r bs R m n, tt)
 next-fair Settle (state a r bs) R = subst AllFair (sym (settle-done (state a r bs) R)) (record { shape = λ e. omega arith; sound = λ e. omega arith }, tt)
 next-fair (Store p v) (state a r bs) R = tt
 

@@ -6,10 +6,11 @@ ghost use Rattle.machine.specs.Calls.{after};
 ghost use Rattle.history.specs.Performed.{callOf};
 use machine::Answer;
 
-// A call of a history, with its number.
+// A call of a history, with its numbers.
 pub enum Call {
     Grant(u64),
     Release(u64),
+    Resize(u64, u64),
     Settle,
 }
 
@@ -22,6 +23,9 @@ pub fn perform(arena: &mut [u8], control: &mut [u8], c: Call) -> Answer
         }
         Call::Release(m) => {
             return calls::release(arena, control, m);
+        }
+        Call::Resize(m, n) => {
+            return calls::resize(arena, control, m, n);
         }
         Call::Settle => {
             return calls::settle(arena, control);

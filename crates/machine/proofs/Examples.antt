@@ -4,16 +4,16 @@ use mathlib.Core.Path.{_≡_, refl}
 use mathlib.Core.Bool.{true}
 use mathlib.Core.List.{List, [], _∷_, _++_}
 use Prim.Native.Nat.{ℕ}
-use lib.ListN.{length, getD, replicate}
+use lib.ListN.{length, getD, take, drop, replicate}
 use Rattle.le.specs.Number.{number, numberFrom, words, digits, bytes}
 use Rattle.le.specs.Arena.{arenaWords}
 use Rattle.sizes.specs.Limits.{none64}
 use Rattle.sizes.specs.Sizes.{need}
-use Rattle.machine.specs.Heap.{cache, fast, bin}
+use Rattle.machine.specs.Heap.{Heap, cache, fast, bin, sizeOf, pOf, recordOf}
 use Rattle.machine.specs.Writes.{apply}
 use Rattle.machine.specs.Grant.{grant}
-use Rattle.machine.specs.Calls.{granted}
-use Rattle.machine.proofs.Script.{Line, G, R, S, script, outs, heapAfter, writesAfter, arenaAfter, same?}
+use Rattle.machine.specs.Calls.{After, after, answerNumbers, openCall, granted, resizeCall}
+use Rattle.machine.proofs.Script.{Line, G, R, S, Z, script, outs, heapAfter, writesAfter, arenaAfter, same?}
 
 -- document 01's heaplog example behind its A 256, line by line: number, mem, usable and top
 example : List Line
@@ -117,3 +117,121 @@ join-order = refl
 refused-joins : number 8 (arenaAfter (granted (replicate 512 0) (grant (need 400) (heapAfter (script 512 eight))))) 264 ≡ 32
 unfolding script eight number numberFrom words digits bytes arenaWords
 refused-joins = refl
+
+-- ---- resize: number, mem, usable and top of each line
+-- null is a grant, a new length of 0 a release, and what was released is no live block
+null-and-0 : same? (outs (script 256 (Z 0 24 ∷ Z 16 0 ∷ Z 16 24 ∷ [])))
+    (0 ∷ 16 ∷ 24 ∷ 32 ∷
+    0 ∷ 0 ∷ 0 ∷ 32 ∷
+    4 ∷ 0 ∷ 0 ∷ 32 ∷ []) ≡ true
+unfolding script
+null-and-0 = refl
+
+-- from the top if both together reach b+32, exactly; else, where nothing else is found, number 5, and the block stays as it is
+from-the-top : same? (outs (script 256 (G 24 ∷ Z 16 217 ∷ Z 16 216 ∷ [])))
+    (0 ∷ 16 ∷ 24 ∷ 32 ∷
+    5 ∷ 0 ∷ 0 ∷ 32 ∷
+    0 ∷ 16 ∷ 216 ∷ 224 ∷ []) ≡ true
+unfolding script
+from-the-top = refl
+
+-- size and P of each chunk named
+heads : Heap → List ℕ → List ℕ
+heads h [] = []
+heads h (c ∷ cs) = sizeOf h c ∷ pOf h c ∷ heads h cs
+
+-- the chunk behind is binned, of 1,120: taken in whole, the P behind it is set again; or its rest goes to the cache (144 bytes: list 7)
+binned-behind : List Line
+binned-behind = G 24 ∷ G 1112 ∷ G 24 ∷ R 48 ∷ []
+
+taken-in : same? (heads (heapAfter (script 8192 binned-behind)) (0 ∷ 32 ∷ 1152 ∷ []) ++ heads (heapAfter (script 8192 (binned-behind ++ Z 16 1132 ∷ []))) (0 ∷ 1152 ∷ []))
+    (32 ∷ 1 ∷ 1120 ∷ 1 ∷ 32 ∷ 0 ∷ 1152 ∷ 1 ∷ 32 ∷ 1 ∷ []) ≡ true
+unfolding script binned-behind heads
+taken-in = refl
+
+rest-cached : same? (last-line (outs (script 8192 (binned-behind ++ Z 16 1000 ∷ []))) ++ cache (heapAfter (script 8192 (binned-behind ++ Z 16 1000 ∷ []))) 7)
+    (0 ∷ 16 ∷ 1000 ∷ 1184 ∷ 1008 ∷ []) ≡ true
+unfolding script binned-behind last-line
+rest-cached = refl
+
+-- a block large enough stays; its rest of 96 goes on fast list 4 where the cache list is full, a larger one into unsorted, or into the top
+G7 : List Line
+G7 = G 88 ∷ G 88 ∷ G 88 ∷ G 88 ∷ G 88 ∷ G 88 ∷ G 88 ∷ []
+
+shrunk : List Line
+shrunk = G7 ++ G 200 ∷ G 24 ∷ R 16 ∷ R 112 ∷ R 208 ∷ R 304 ∷ R 400 ∷ R 496 ∷ R 592 ∷ Z 688 100 ∷ []
+
+rest-fast : same? (last-line (outs (script 8192 shrunk)) ++ fast (heapAfter (script 8192 shrunk)) 4) (0 ∷ 688 ∷ 104 ∷ 912 ∷ 784 ∷ []) ≡ true
+unfolding script shrunk G7 last-line
+rest-fast = refl
+
+rest-unsorted : same? (bin (heapAfter (script 8192 (G 2000 ∷ G 24 ∷ Z 16 100 ∷ []))) 1) (112 ∷ []) ≡ true
+unfolding script
+rest-unsorted = refl
+
+rest-to-top : same? (last-line (outs (script 8192 (G 2000 ∷ Z 16 100 ∷ [])))) (0 ∷ 16 ∷ 104 ∷ 112 ∷ []) ≡ true
+unfolding script last-line
+rest-to-top = refl
+
+-- a block that cannot grow is moved: its three usable words (7, 8, 9) are copied, and it is released, which writes its link
+copying : List Line
+copying = G 24 ∷ G 24 ∷ Z 16 100 ∷ []
+
+moved-and-copied : same? (last-line (outs (script 256 copying)) ++ cache (heapAfter (script 256 copying)) 0
+    ++ take 4 (drop 9 (apply (writesAfter (script 256 copying)) (0 ∷ 0 ∷ 7 ∷ 8 ∷ 9 ∷ replicate 27 0))))
+    (0 ∷ 80 ∷ 104 ∷ 176 ∷ 0 ∷ 113 ∷ 7 ∷ 8 ∷ 9 ∷ []) ≡ true
+unfolding script copying last-line
+moved-and-copied = refl
+
+-- the block is sought by steps 2 to 9: a chunk of its size in the cache stays there
+not-the-cache : same? (last-line (outs (script 512 (G 24 ∷ G 24 ∷ G 100 ∷ G 24 ∷ R 80 ∷ Z 16 100 ∷ [])))) (0 ∷ 224 ∷ 104 ∷ 320 ∷ []) ≡ true
+unfolding script last-line
+not-the-cache = refl
+
+-- open point 85: the fast chunk before the block is joined and binned on the way, so the block's P is clear; the fast chunk behind it goes to the top, from
+-- which the sought block is cut: it lies right behind the old one and is joined to it, which keeps P as it stands, and the rest of 48 goes to the cache
+fast-around : List Line
+fast-around = G 0 ∷ G 0 ∷ G 0 ∷ G 0 ∷ G 0 ∷ G 0 ∷ G 0 ∷ G 0 ∷ G 40 ∷ G 0 ∷ R 16 ∷ R 48 ∷ R 80 ∷ R 112 ∷ R 144 ∷ R 176 ∷ R 208 ∷ R 240 ∷ R 320 ∷ []
+
+own-p : List Line
+own-p = fast-around ++ Z 272 80 ∷ []
+
+own-p-lines : same? (drop 28 (outs (script 432 own-p)))
+    (0 ∷ 240 ∷ 24 ∷ 256 ∷
+    0 ∷ 272 ∷ 40 ∷ 304 ∷
+    0 ∷ 320 ∷ 24 ∷ 336 ∷
+    0 ∷ 0 ∷ 0 ∷ 336 ∷
+    0 ∷ 0 ∷ 0 ∷ 336 ∷
+    0 ∷ 0 ∷ 0 ∷ 336 ∷
+    0 ∷ 0 ∷ 0 ∷ 336 ∷
+    0 ∷ 0 ∷ 0 ∷ 336 ∷
+    0 ∷ 0 ∷ 0 ∷ 336 ∷
+    0 ∷ 0 ∷ 0 ∷ 336 ∷
+    0 ∷ 0 ∷ 0 ∷ 336 ∷
+    0 ∷ 0 ∷ 0 ∷ 336 ∷
+    0 ∷ 272 ∷ 88 ∷ 400 ∷ []) ≡ true
+unfolding script fast-around own-p
+own-p-lines = refl
+
+own-p-kept : same? (heads (heapAfter (script 432 own-p)) (224 ∷ 256 ∷ 352 ∷ []) ++ bin (heapAfter (script 432 own-p)) 2 ++ cache (heapAfter (script 432 own-p)) 1)
+    (32 ∷ 1 ∷ 96 ∷ 0 ∷ 48 ∷ 1 ∷ 224 ∷ 352 ∷ []) ≡ true
+unfolding script fast-around own-p heads
+own-p-kept = refl
+
+-- refused, the same block stays live with its size, and no list has it; what was joined stays joined, so its P is clear as well
+refused-p : same? (last-line (outs (script 432 (fast-around ++ Z 272 200 ∷ []))) ++ heads (heapAfter (script 432 (fast-around ++ Z 272 200 ∷ []))) (256 ∷ [])
+    ++ cache (heapAfter (script 432 (fast-around ++ Z 272 200 ∷ []))) 1)
+    (5 ∷ 0 ∷ 0 ∷ 304 ∷ 48 ∷ 0 ∷ []) ≡ true
+unfolding script fast-around heads last-line
+refused-p = refl
+
+-- on a newly opened arena of 32 bytes, which has no live block, a resize above 262,144 is refused with 2 and not with 4
+numberAfter : (List ℕ → List ℕ → After) → After → ℕ
+numberAfter f (after a r x) = go (f a r)
+  where
+    go : After → ℕ
+    go (after a r x) = answerNumbers x .no
+
+number-2-first : numberAfter (λ a r. resizeCall a r 16 262145) (openCall (replicate 32 0) (replicate 1572 0)) ≡ 2
+unfolding numberAfter openCall resizeCall recordOf words digits bytes number numberFrom arenaWords
+number-2-first = refl

@@ -9,6 +9,7 @@ use Rattle.machine.specs.Heap.{Heap, opened, topOf, sizeOf, live?, recor
 use Rattle.machine.specs.Writes.{Write, Ran, ran}
 use Rattle.machine.specs.Release.{absorb, joinNext, putDown, join, releasePast, release, drain, drains, consolidate, emptying, joining, settle}
 use Rattle.machine.specs.Grant.{step1, moveFast, step2, takeLast, moveLasts, step3, step4, split, sortIn, splitLone, keep, turnAt, turn, swept, sweep, step5, carve, step8, step6, step7, step9, pass, again, from4, seek, grant}
+use Rattle.machine.specs.Resize.{nextP, finish, resize}
 use Rattle.machine.specs.Calls.{After, after}
 use Rattle.machine.specs.declared.{Got.Got}
 use Rattle.machine.specs.declared.Got.the-variants.{At, Nothing}
@@ -17,6 +18,7 @@ pub data Line : Type 0 where
   G : ℕ → Line
   R : ℕ → Line
   S : Line
+  Z : ℕ → ℕ → Line
 
 -- ---- on the heap: number, mem, usable and top for each line, the heap and all writes at the end
 pub data Log : Type 0 where
@@ -36,13 +38,20 @@ abbrev pub step : Line → Heap → (Heap → Log) → Log
 step (G n) h f = onGot (grant (need n) h) f
 step (R m) h f = elim (both (leb 16 m) (live? h (m - 16))) [ true ↦ onDone (release (m - 16) h) f | false ↦ logged (4 ∷ 0 ∷ 0 ∷ topOf h ∷ []) [] (f h) ]
 step S h f = onDone (settle h) f
+step (Z m n) h f = elim (eqb m 0) [
+  | true ↦ onGot (grant (need n) h) f
+  | false ↦ elim (both (leb 16 m) (live? h (m - 16))) [
+    | true ↦ elim (eqb n 0) [ true ↦ onDone (release (m - 16) h) f | false ↦ onGot (resize (m - 16) (need n) h) f ]
+    | false ↦ logged (4 ∷ 0 ∷ 0 ∷ topOf h ∷ []) [] (f h)
+  ]
+]
 
 abbrev pub runHeap : List Line → Heap → Log
 runHeap [] h = log [] h []
 runHeap (l ∷ ls) h = step l h (λ g. runHeap ls g)
 
 unfoldable pub script : ℕ → List Line → Log
-unfolding need usable cacheOf fastOf binOf largeBin recordOf absorb joinNext putDown join releasePast release drain drains consolidate emptying joining settle step1 moveFast step2 takeLast moveLasts step3 step4 split sortIn splitLone keep turnAt turn swept sweep step5 carve step8 step6 step7 step9 pass again from4 seek grant
+unfolding need usable cacheOf fastOf binOf largeBin recordOf absorb joinNext putDown join releasePast release drain drains consolidate emptying joining settle step1 moveFast step2 takeLast moveLasts step3 step4 split sortIn splitLone keep turnAt turn swept sweep step5 carve step8 step6 step7 step9 pass again from4 seek grant nextP finish resize
 script n ls = runHeap ls (opened n)
 
 abbrev pub outs : Log → List ℕ

@@ -14,6 +14,7 @@ use Rattle.machine.specs.Heap.{Heap, opened, sizeOf, live?, recordOf}
 use Rattle.machine.specs.Writes.{Write, size, apply, Ran, ran}
 use Rattle.machine.specs.Release.{release, settle}
 use Rattle.machine.specs.Grant.{grant}
+use Rattle.machine.specs.Resize.{resize}
 use Rattle.machine.specs.View.{view}
 use Rattle.machine.specs.Audit.{sound?, auditOf}
 use Rattle.machine.specs.declared.{Got.Got, ListKind.ListKind, Audited.Audited, Refusal.Refusal, Answer.Answer, HeapAnswer.HeapAnswer, HeapFault.HeapFault}
@@ -106,23 +107,33 @@ granted a (ran h ws (At c)) = left a h ws (Granted (memOf c) (usable (sizeOf h c
 granted a (ran h ws Nothing) = left a h ws (Refused R.NoRoom)
 
 -- of good shape, number 2 comes before number 3
+abbrev pub onRequest : List ℕ → List ℕ → ℕ → (Heap → After) → After
+onRequest a r n f = elim (both (shape? a r) (ltb mostRequest n)) [ true ↦ refused a r R.Request | false ↦ onSound a r f ]
+
 unfoldable pub grantCall : List ℕ → List ℕ → ℕ → After
-grantCall a r n = elim (both (shape? a r) (ltb mostRequest n)) [ true ↦ refused a r R.Request | false ↦ onSound a r (λ h. granted a (grant (need n) h)) ]
+grantCall a r n = onRequest a r n (λ h. granted a (grant (need n) h))
 
 -- ---- release: numbers 1, 3, 4; null does nothing and succeeds
 abbrev pub done : {A : Type 0} → List ℕ → Ran A → After
 done a (ran h ws x) = left a h ws Done
 
+-- the call on the live block at mem m, or number 4
+abbrev pub onLive : List ℕ → List ℕ → ℕ → Heap → After → After
+onLive a r m h x = elim (both (leb 16 m) (live? h (chunkOf m))) [ true ↦ x | false ↦ refused a r R.NotLive ]
+
 unfoldable pub releaseCall : List ℕ → List ℕ → ℕ → After
-releaseCall a r m = onSound a r (λ h.
-    elim (eqb m 0) [
-      | true ↦ after a r Done
-      | false ↦ elim (both (leb 16 m) (live? h (chunkOf m))) [
-        | true ↦ done a (release (chunkOf m) h)
-        | false ↦ refused a r R.NotLive
-      ]
-    ])
+releaseCall a r m = onSound a r (λ h. elim (eqb m 0) [ true ↦ after a r Done | false ↦ onLive a r m h (done a (release (chunkOf m) h)) ])
 
 -- ---- settle: numbers 1, 3
 unfoldable pub settleCall : List ℕ → List ℕ → After
 settleCall a r = onSound a r (λ h. done a (settle h))
+
+-- ---- resize: null is a grant; else a new length of 0 is a release; else numbers 1, 2, 3, 4; number 5 leaves what the steps did before it
+unfoldable pub resizeCall : List ℕ → List ℕ → ℕ → ℕ → After
+resizeCall a r m n = elim (eqb m 0) [
+  | true ↦ grantCall a r n
+  | false ↦ elim (eqb n 0) [
+    | true ↦ releaseCall a r m
+    | false ↦ onRequest a r n (λ h. onLive a r m h (granted a (resize (chunkOf m) (need n) h)))
+  ]
+]

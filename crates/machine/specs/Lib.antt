@@ -5,6 +5,7 @@ pub mod Writes
 pub mod Primitives
 pub mod Release
 pub mod Grant
+pub mod Resize
 pub mod View
 pub mod Audit
 pub mod Calls

@@ -3,7 +3,7 @@ use mathlib.Core.List.{List, [], _∷_, _++_}
 use Prim.Native.Nat.{ℕ, _+_, _-_}
 use Rattle.sizes.specs.Limits.{none64}
 use Rattle.machine.specs.Lists.{hd, lst, tl, pre, post}
-use Rattle.machine.specs.Heap.{Tile, tile, Heap, stack, bin, withTiles, withStack, withBin, withRemainder, upTo, edit, topOf, sizeOf, next}
+use Rattle.machine.specs.Heap.{Tile, tile, Heap, stack, bin, withTiles, withStack, withBin, withRemainder, upTo, edit, topOf, sizeOf, pOf, next}
 use Rattle.machine.specs.Writes.{Write, size, note, link, fwd, back, Ran, ran, does}
 use Rattle.machine.specs.declared.{Got.Got, Got.the-variants.At}
 
@@ -61,6 +61,20 @@ abbrev pub cutT : ℕ → List Tile → List Tile
 cutT b [] = []
 cutT b (t ∷ z) = tile b 1 0 ∷ tile (t .size - b) 1 0 ∷ z
 
+-- the same of a block that keeps its own P and its previous size: it takes in the next chunk; it is cut at b; it gets the size b
+abbrev pub widenT : List Tile → List Tile
+widenT [] = []
+widenT (t ∷ []) = t ∷ []
+widenT (t ∷ u ∷ z) = tile (t .size + u .size) (t .p) (t .prev) ∷ z
+
+abbrev pub trimT : ℕ → List Tile → List Tile
+trimT b [] = []
+trimT b (t ∷ z) = tile b (t .p) (t .prev) ∷ tile (t .size - b) 1 0 ∷ z
+
+abbrev pub growT : ℕ → List Tile → List Tile
+growT b [] = []
+growT b (t ∷ z) = tile b (t .p) (t .prev) ∷ z
+
 -- c takes in the chunk after it: the whole's size word, P set
 abbrev pub swallow : ℕ → Heap → Ran (Unit {0})
 swallow c h = does (edit c swallowT h) (size c (sizeOf h c + sizeOf h (next h c)) 1 ∷ [])
@@ -91,3 +105,13 @@ cutTop b h =
 
 abbrev pub setRemainder : ℕ → Heap → Ran (Unit {0})
 setRemainder c h = does (withRemainder c h) []
+
+-- a block c with its own P as it stands: it takes in the chunk after it; it is cut at b; the last before the top, it takes from the top what it lacks of b
+abbrev pub widen : ℕ → Heap → Ran (Unit {0})
+widen c h = does (edit c widenT h) (size c (sizeOf h c + sizeOf h (next h c)) (pOf h c) ∷ [])
+
+abbrev pub trimAt : ℕ → ℕ → Heap → Ran (Unit {0})
+trimAt c b h = does (edit c (trimT b) h) (size c b (pOf h c) ∷ size (c + b) (sizeOf h c - b) 1 ∷ [])
+
+abbrev pub growTop : ℕ → ℕ → Heap → Ran (Unit {0})
+growTop c b h = does (edit c (growT b) h) (size c b (pOf h c) ∷ size (c + b) (h .len - (c + b)) 1 ∷ [])

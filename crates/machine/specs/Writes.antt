@@ -1,7 +1,7 @@
 -- What a step comes to: the heap after it, the fields it writes in order, its answer. Memory after a step is what its writes make of it. Definitions only.
 use mathlib.Core.List.{List, [], _∷_, _++_}
 use Prim.Native.Nat.{ℕ, _+_, _/_}
-use lib.ListN.{set}
+use lib.ListN.{getD, set}
 use Rattle.machine.specs.Heap.{Heap}
 use Rattle.machine.specs.declared.{Got.Got, Got.the-variants.At, Got.the-variants.Nothing}
 
@@ -14,14 +14,16 @@ pub data Write : Type 0 where
   link : ℕ → ℕ → Write  -- c's forward link in a cache or fast list
   fwd : ℕ → ℕ → Write  -- c's forward link in a bin
   back : ℕ → ℕ → Write  -- c's back link in a bin
+  copy : ℕ → ℕ → ℕ → Write  -- c's usable word i: that of the chunk given second
 
--- whose field it is, which of its 8-byte words, and what goes there
+-- whose field it is, which of its 8-byte words, and what goes there; only a copy asks what the words were
 abbrev pub who : Write → ℕ
 who (size c s p) = c
 who (note c s) = c
 who (link c x) = c
 who (fwd c x) = c
 who (back c x) = c
+who (copy c x i) = c
 
 abbrev pub field : Write → ℕ
 field (size c s p) = 1
@@ -29,17 +31,19 @@ field (note c s) = 0
 field (link c x) = 2
 field (fwd c x) = 2
 field (back c x) = 3
+field (copy c x i) = 2 + i
 
-abbrev pub value : Write → ℕ
-value (size c s p) = s + p
-value (note c s) = s
-value (link c x) = x
-value (fwd c x) = x
-value (back c x) = x
+abbrev pub value : Write → List ℕ → ℕ
+value (size c s p) w = s + p
+value (note c s) w = s
+value (link c x) w = x
+value (fwd c x) w = x
+value (back c x) w = x
+value (copy c x i) w = getD w (x / 8 + (2 + i)) 0
 
 -- the arena's words after a write, and after several
 abbrev pub put : Write → List ℕ → List ℕ
-put e w = set w (who e / 8 + field e) (value e)
+put e w = set w (who e / 8 + field e) (value e w)
 
 abbrev pub apply : List Write → List ℕ → List ℕ
 apply [] w = w

@@ -10,11 +10,12 @@ use Rattle.sizes.specs.Sizes.{need, usable, cacheOf, fastOf, binOf, largeBin}
 use Rattle.machine.specs.Heap.{recordOf}
 use Rattle.machine.specs.Release.{absorb, joinNext, putDown, join, releasePast, release, drain, drains, consolidate, emptying, joining, settle}
 use Rattle.machine.specs.Grant.{step1, moveFast, step2, takeLast, moveLasts, step3, step4, split, sortIn, splitLone, keep, turnAt, turn, swept, sweep, step5, carve, step8, step6, step7, step9, pass, again, from4, seek, grant}
+use Rattle.machine.specs.Resize.{nextP, finish, resize}
 use Rattle.machine.specs.View.{listAt, tilesOf, stacksOf, binsOf}
 use Rattle.machine.specs.Audit.{tileFault, goodFrom, listFault, flagFault, auditOf}
-use Rattle.machine.specs.Calls.{After, after, answerNumbers, auditCall, closedRecord, openCall, grantCall, releaseCall, settleCall}
+use Rattle.machine.specs.Calls.{After, after, answerNumbers, auditCall, closedRecord, openCall, grantCall, releaseCall, settleCall, resizeCall}
 use Rattle.machine.specs.declared.{Answer.Answer}
-use Rattle.machine.proofs.Script.{Line, G, R, S, same?}
+use Rattle.machine.proofs.Script.{Line, G, R, S, Z, same?}
 
 -- ---- scripts: what each line prints behind its letter, and the bytes left
 pub data Printed : Type 0 where
@@ -24,6 +25,7 @@ abbrev pub exampleCall : Line → List ℕ → List ℕ → After
 exampleCall (G n) a r = grantCall a r n
 exampleCall (R m) a r = releaseCall a r m
 exampleCall S a r = settleCall a r
+exampleCall (Z m n) a r = resizeCall a r m n
 
 abbrev pub line : Answer → List ℕ → List ℕ
 line x r = answerNumbers x .no ∷ answerNumbers x .mem ∷ answerNumbers x .usable ∷ number 4 r 4 ∷ []
@@ -40,7 +42,7 @@ runBytes (l ∷ ls) a r = goOn (exampleCall l a r) (λ b s. runBytes ls b s)
 
 -- opened on an arena of n bytes, all equal to x, and a record of bytes x
 unfoldable pub scriptBytes : ℕ → ℕ → List Line → Printed
-unfolding number numberFrom words digits bytes arenaWords need usable cacheOf fastOf binOf largeBin recordOf absorb joinNext putDown join releasePast release drain drains consolidate emptying joining settle step1 moveFast step2 takeLast moveLasts step3 step4 split sortIn splitLone keep turnAt turn swept sweep step5 carve step8 step6 step7 step9 pass again from4 seek grant listAt tilesOf stacksOf binsOf tileFault goodFrom listFault flagFault auditOf auditCall closedRecord openCall grantCall releaseCall settleCall
+unfolding number numberFrom words digits bytes arenaWords need usable cacheOf fastOf binOf largeBin recordOf absorb joinNext putDown join releasePast release drain drains consolidate emptying joining settle step1 moveFast step2 takeLast moveLasts step3 step4 split sortIn splitLone keep turnAt turn swept sweep step5 carve step8 step6 step7 step9 pass again from4 seek grant nextP finish resize listAt tilesOf stacksOf binsOf tileFault goodFrom listFault flagFault auditOf auditCall closedRecord openCall grantCall releaseCall settleCall resizeCall
 scriptBytes x n ls = goOn (openCall (replicate n x) (replicate 1572 x)) (λ b s. runBytes ls b s)
 
 abbrev pub outOf : Printed → List ℕ
@@ -107,3 +109,17 @@ large-requests = refl
 open-writes : same? (arenaOut (scriptBytes 170 32 [])) (replicate 8 170 ++ (33 ∷ replicate 7 0) ++ replicate 16 170) ≡ true
 unfolding scriptBytes
 open-writes = refl
+
+-- a resize is refused with 2 before it is looked at, with 4 whatever its length; null is a grant, and a length of 0 a release
+resize-refusals : same? (outOf (scriptBytes 0 64 (Z 0 262145 ∷ Z 16 262145 ∷ Z 16 0 ∷ Z 0 0 ∷ Z 32 0 ∷ Z 16 25 ∷ Z 16 24 ∷ Z 16 0 ∷ [])))
+    (0 ∷ 0 ∷ 0 ∷ 0 ∷
+    2 ∷ 0 ∷ 0 ∷ 0 ∷
+    2 ∷ 0 ∷ 0 ∷ 0 ∷
+    4 ∷ 0 ∷ 0 ∷ 0 ∷
+    0 ∷ 16 ∷ 24 ∷ 32 ∷
+    4 ∷ 0 ∷ 0 ∷ 32 ∷
+    5 ∷ 0 ∷ 0 ∷ 32 ∷
+    0 ∷ 16 ∷ 24 ∷ 32 ∷
+    0 ∷ 0 ∷ 0 ∷ 32 ∷ []) ≡ true
+unfolding scriptBytes
+resize-refusals = refl

@@ -1,4 +1,5 @@
 pub mod Reads
 pub mod States
+pub mod Ahead
 pub mod Parts
 pub mod Join

@@ -4,11 +4,10 @@ use mathlib.Core.Path.{_≡_, refl, sym, ap, _∙_, subst}
 use mathlib.Core.Bool.{Bool, true, false}
 use mathlib.Core.List.{List, [], _∷_, _++_}
 use mathlib.Core.Logic.{inl, inr, ⊎-elim}
-use Prim.Native.Nat.{ℕ, _+_, _-_, _*_, _%_, _≤_, _<_}
+use Prim.Native.Nat.{ℕ, _+_, _-_, _*_, _≤_, _<_}
 use native.Mathlib.Omega.{arith}
 use lib.ListN.{length, getD, set}
 use lib.Seq.{getD-set-same}
-use borrow.Author.Tests.{eqb-true, eqb-false}
 use Rattle.sizes.specs.Limits.{unsorted}
 use Rattle.sizes.specs.Sizes.{binOf}
 use Rattle.sizes.specs.Layout.{lengthWord, topWord, sizeWord}
@@ -20,11 +19,11 @@ use Rattle.machine.specs.Writes.{Write, size, note, put, apply, Ran, heapOf, wr
 use Rattle.machine.specs.Primitives.{putFirst, unlink, swallow, clearP, toTop}
 use Rattle.machine.specs.Release.{absorb, joinNext, putDown}
 use Rattle.machine.specs.View.{sizeAt}
-use Rattle.sound.specs.Relation.{tiled, flags, Mem, Shape, Loose, Homes}
+use Rattle.sound.specs.Relation.{tiled, Mem, Shape, Loose, Homes}
 use Rattle.sound.specs.Tiles.{zero-or, tiled-split, end-le, end-append, starts-append}
 use Rattle.sound.specs.Frames.{apply-length}
 use Rattle.sound.specs.Lists.{unlink-shape}
-use Rattle.sound.specs.Edits.{size-at, snoc-end, snoc-tiles, top-mid, Kept, tiled-tiles, swallow-is, clear-is, clear-kept, to-top-is}
+use Rattle.sound.specs.Edits.{snoc-end, snoc-tiles, top-mid, Kept, tiled-tiles, swallow-is, clear-is, clear-kept, to-top-is}
 use Rattle.sound.specs.Flags.{flagsAfter}
 use Rattle.sound.specs.Join.{bin-has, Joining, next-no, next-yes, down-top, down-bin}
 use Rattle.sound.specs.RecordOf.{record-withTiles, record-tiles}
@@ -32,9 +31,9 @@ use Rattle.primitives.specs.Follow.{Ok, Has, Gave, Does}
 use Rattle.primitives.specs.FollowLaws.{gave-none, gave-by, gave-then, gave-giving, ok-len, ok-top}
 use Rattle.primitives.specs.Places.{Home, Binned}
 use Rattle.primitives.specs.Chunks.{Inside}
-use Rattle.primitives.specs.Stacks.{ok-length}
 use Rattle.release_join.specs.Reads.{Reads, reads, all-at, reads-inside, top-free}
 use Rattle.release_join.specs.States.{Taking, Open}
+use Rattle.release_join.specs.Ahead.{Ahead, Nearby, after-is, size-is, next-is, beyond, ahead-nearby, next-size, clear-binned, set-free}
 
 -- a binned chunk is in unsorted or in its size's bin
 pub home-of : (h : Heap) (x z : ℕ) → Homes h → 1 ≤ binned h x → sizeOf h x ≡ z → Home h (binHas h x) x z
@@ -94,19 +93,6 @@ module _ (h : Heap) (w r : List ℕ) (x zx c s : ℕ) (o : Ok h w r) (T : Taking
         let k : getD v′ (sizeWord c) 0 ≡ s + 1 = ap (λ (v : List ℕ). getD v (sizeWord c) 0) e ∙ getD-set-same v (sizeWord c) (s + 1) 0 i in
         omega (arith, T .whole, taking-reads .whole, taken-reads .whole)
 
--- ---- what the code needs for its own safety, in m bytes of arena: c, of size z, and what stands after it
-pub record Nearby (m : ℕ) (w r : List ℕ) (c z : ℕ) : Type 0 where
-  pub here : Inside m c
-  pub after : Inside m (c + z)
-  pub long : length r ≡ 393
-  pub within : c + z ≤ getD r lengthWord 0
-  pub most : getD r lengthWord 0 ≤ 262144
-  pub beyond : (c + z ≡ getD r topWord 0 → ⊥) → (y : ℕ) → y ≡ sizeAt w (c + z) → Inside m (c + z + y)
-
-head-of : (z : List Tile) (T : Tile) → (v : Tile) × (y : List Tile) × (z ++ T ∷ [] ≡ v ∷ y)
-head-of [] T = (T, [], refl)
-head-of (v ∷ z) T = (v, z ++ T ∷ [], refl)
-
 -- ---- with the chunk after: c is open, and of size z
 module _ (h : Heap) (w r : List ℕ) (c z : ℕ) (o : Ok h w r) (O : Open h c) (ez : z ≡ sizeAt w c) where
   abbrev a : List Tile
@@ -115,115 +101,47 @@ module _ (h : Heap) (w r : List ℕ) (c z : ℕ) (o : Ok h w r) (O : Open h c) (
   abbrev t : Tile
   t = O .now .t
 
-  abbrev T : Tile
-  T = tile (topSize h) 1 0
-
   gap : Joining h (O .a) (O .now .t) (O .now .r) (O .n)
   gap = O .now .gap
 
-  here : Reads w c (O .now .t)
-  here = subst (λ (c : ℕ). Reads w c t) (sym (O .at)) (reads h w r o a (O .now .r ++ T ∷ []) t (all-at h a (t ∷ O .now .r) (gap .tiles)))
+  whole : z ≡ O .now .t .size
+  whole = ez ∙ subst (λ (c : ℕ). Reads w c t) (sym (O .at)) (reads h w r o a (O .now .r ++ tile (topSize h) 1 0 ∷ []) t (all-at h a (t ∷ O .now .r) (gap .tiles))) .size
 
-  after-is : endFrom 0 (O .a ++ O .now .t ∷ []) ≡ c + z
-  after-is = snoc-end a t ∙ (let e : endFrom 0 a + t .size ≡ c + z = omega (arith, O .at, here .size) in e)
+  abbrev A : Ahead h c z
+  A = record {
+    a = O .a;
+    t = O .now .t;
+    r = O .now .r;
+    at = O .at;
+    whole = whole;
+    tiles = gap .tiles;
+    high = subst (λ (n : ℕ). flagsAfter (λ x. binned h x) (endFrom 0 a + t .size) (O .now .r ++ tile n 1 0 ∷ [])) (sym (gap .top)) (gap .high);
+  }
 
-  size-is : sizeOf h c ≡ z
-  size-is = ap (sizeOf h) (O .at) ∙ size-at h a (O .now .r) t (gap .tiles)
-      (tiled-split a (t ∷ O .now .r) (subst tiled (gap .tiles) (tiled-tiles h (o .shape))) .0) ∙ sym (ez ∙ here .size)
+  after : endFrom 0 (O .a ++ O .now .t ∷ []) ≡ c + z
+  after = after-is h w r c z o A
 
-  next-is : next h c ≡ c + z
-  next-is = ap (λ (z : ℕ). c + z) size-is
-
-  after-reads : (y : Tile) × Reads w (c + z) y
-  after-reads =
-      let H = head-of (O .now .r) T in
-      let a₁ : List Tile = a ++ t ∷ [] in (
-        H .0,
-        subst (λ (x : ℕ). Reads w x (H .0)) after-is (reads h w r o a₁ (H .1) (H .0)
-            (all-at h a₁ (O .now .r) (gap .tiles ∙ sym (snoc-tiles a (O .now .r) t)) ∙ ap (λ (l : List Tile). a₁ ++ l) (H .2))),
-      )
-
-  -- what stands after c, where that is not the top
-  pub record Beyond : Type 0 where
-    pub u : Tile
-    pub y : List Tile
-    pub tiles : h .tiles ≡ O .a ++ O .now .t ∷ u ∷ y
-    pub reads : Reads w (c + z) u
-    pub last : Tile
-    pub lastly : Reads w (c + z + u .size) last
-    pub bit : last .p + binned h (c + z) ≡ 1
-
-  pub beyond : (c + z ≡ getD r topWord 0 → ⊥) → Beyond
-  beyond ne = go (O .now .r) refl
-    where
-      tiled : (l : List Tile) → O .now .r ≡ l → h .tiles ≡ a ++ t ∷ l
-      tiled l e = gap .tiles ∙ ap (λ (r : List Tile). a ++ t ∷ r) e
-
-      go : (l : List Tile) → O .now .r ≡ l → Beyond
-      go [] e = absurd (ne (sym (ok-top h w r o ∙ ap (endFrom 0) (tiled [] e) ∙ after-is)))
-      go (u ∷ y) e =
-          let b : ℕ → ℕ = λ x. binned h x in
-          let a₁ : List Tile = a ++ t ∷ [] in
-          let a₂ : List Tile = a₁ ++ u ∷ [] in
-          let H = head-of y T in
-          let n₂ : endFrom 0 a₂ ≡ c + z + u .size = snoc-end a₁ u ∙ ap (λ (x : ℕ). x + u .size) after-is in
-          let e₁ : h .tiles ≡ a₁ ++ u ∷ y = tiled (u ∷ y) e ∙ sym (snoc-tiles a (u ∷ y) t) in
-          let F : flags b (endFrom 0 a + t .size + u .size) (b (endFrom 0 a + t .size)) (u .size) (H .0 ∷ H .1) =
-          subst (flags b (endFrom 0 a + t .size + u .size) (b (endFrom 0 a + t .size)) (u .size)) (H .2)
-          (subst (λ (n : ℕ). flagsAfter b (endFrom 0 a + t .size) (u ∷ (y ++ tile n 1 0 ∷ []))) (sym (gap .top))
-          (subst (λ (r : List Tile). flagsAfter b (endFrom 0 a + t .size) (r ++ tile (O .n) 1 0 ∷ [])) e (gap .high))) in
-          record {
-            u = u;
-            y = y;
-            tiles = tiled (u ∷ y) e;
-            reads = subst (λ (x : ℕ). Reads w x u) after-is (reads h w r o a₁ (y ++ T ∷ []) u (all-at h a₁ (u ∷ y) e₁));
-            last = H .0;
-            lastly = subst (λ (x : ℕ). Reads w x (H .0)) n₂ (reads h w r o a₂ (H .1) (H .0)
-                (all-at h a₂ y (e₁ ∙ sym (snoc-tiles a₁ y u)) ∙ ap (λ (l : List Tile). a₂ ++ l) (H .2)));
-            bit = ap (λ (x : ℕ). H .0 .p + b x) (sym after-is ∙ snoc-end a t) ∙ F .0;
-          }
+  next-at : next h c ≡ c + z
+  next-at = next-is h w r c z o A
 
   pub nearby : (m : ℕ) → 8 * length w ≤ m → Nearby m w r c z
-  nearby m l =
-      let k = after-reads .1 in
-      record {
-        here = reads-inside m w c t l here;
-        after = reads-inside m w (c + z) (after-reads .0) l k;
-        long = ok-length h w r o;
-        within = omega (arith, ok-len h w r o, o .mem .long, k .high);
-        most = omega (arith, ok-len h w r o, o .shape .small);
-        beyond = λ ne y e.
-            let B = beyond ne in
-            let q : c + z + B .u .size ≡ c + z + y = omega (arith, B .reads .size) in
-            subst (Inside m) q (reads-inside m w (c + z + B .u .size) (B .last) l (B .lastly));
-      }
+  nearby = ahead-nearby h w r c z o A
 
   -- c's next is the top; it is not binned; it is, and c takes it in
   pub next-top-gave : c + z ≡ getD r topWord 0 → Gave (Unit {0}) (joinNext c h) tt w w r
   next-top-gave e =
-      gave-by (next-no c h (ap (binned h) (next-is ∙ e ∙ ok-top h w r o) ∙ top-free h w r o)) (gave-none h tt w r (o .rec))
+      gave-by (next-no c h (ap (binned h) (next-at ∙ e ∙ ok-top h w r o) ∙ top-free h w r o)) (gave-none h tt w r (o .rec))
 
   -- x: the size word behind the next chunk, p: its P
   module _ (y x : ℕ) (p : Bool) (ne : c + z ≡ getD r topWord 0 → ⊥) (ey : y ≡ sizeAt w (c + z)) (ex : x ≡ getD w (sizeWord (c + z + y)) 0) (ep : p ≡ pOfWord x) where
-    bit-is : x % 2 + binned h (c + z) ≡ 1
-    bit-is =
-        let B = beyond ne in
-        let q : y ≡ B .u .size = ey ∙ B .reads .size in
-        omega (arith, ap (λ (n : ℕ). n % 2) ex, ap (λ (y : ℕ). getD w (sizeWord (c + z + y)) 0 % 2) q, B .lastly .p, B .bit)
-
-    binned-is : p ≡ false → 1 ≤ binned h (c + z)
-    binned-is e = omega (arith, bit-is, eqb-false (x % 2) 1 (sym ep ∙ e))
-
     pub next-alone-gave : p ≡ true → Gave (Unit {0}) (joinNext c h) tt w w r
     next-alone-gave e =
-        gave-by (next-no c h (ap (binned h) next-is ∙ (let n : binned h (c + z) ≡ 0 = omega (arith, bit-is, eqb-true (x % 2) 1 (sym ep ∙ e)) in n)))
+        gave-by (next-no c h (ap (binned h) next-at ∙ set-free h w r c z o A y x p ne ey ex ep e))
         (gave-none h tt w r (o .rec))
 
     pub next-taking : p ≡ false → Taking h (c + z) y c (z + y)
     next-taking e =
-        let B = beyond ne in
-        let f : tiled (a ++ t ∷ []) × tiled (B .u ∷ B .y) =
-        tiled-split (a ++ t ∷ []) (B .u ∷ B .y) (subst tiled (B .tiles ∙ sym (snoc-tiles a (B .u ∷ B .y) t)) (tiled-tiles h (o .shape))) in
+        let B = beyond h w r c z o A ne in
         record {
           a = a;
           t = t;
@@ -231,15 +149,13 @@ module _ (h : Heap) (w r : List ℕ) (c z : ℕ) (o : Ok h w r) (O : Open h c) (
           z = B .y;
           tiles = B .tiles;
           at = O .at;
-          whole = omega (arith, here .size, B .reads .size);
-          home = home-of h (c + z) y (gap .homes) (binned-is e)
-              (ap (sizeOf h) (sym after-is) ∙ size-at h (a ++ t ∷ []) (B .y) (B .u) (B .tiles ∙ sym (snoc-tiles a (B .u ∷ B .y) t)) (f .0)
-              ∙ sym (ey ∙ B .reads .size));
+          whole = omega (arith, whole, ey, B .reads .size);
+          home = home-of h (c + z) y (gap .homes) (clear-binned h w r c z o A y x p ne ey ex ep e) (next-size h w r c z o A y ne ey);
         }
 
     pub next-taken-gave : {v q : List ℕ} → p ≡ false → Does (Unit {0}) (λ h. Taking h (c + z) y c (z + y)) (absorb (c + z) c) w r tt v q
         → Gave (Unit {0}) (joinNext c h) tt w v q
-    next-taken-gave e D = gave-by (next-yes c (c + z) h next-is (binned-is e)) (D .does h o (next-taking e))
+    next-taken-gave e D = gave-by (next-yes c (c + z) h next-at (clear-binned h w r c z o A y x p ne ey ex ep e)) (D .does h o (next-taking e))
 
   -- ---- the whole is put down: it touches the top
   pub down-top-gave : {v q : List ℕ} (s : ℕ) → c + z ≡ getD r topWord 0 → s ≡ getD r lengthWord 0 - c → v ≡ put (size c s 1) w → q ≡ set r topWord c
@@ -257,7 +173,7 @@ module _ (h : Heap) (w r : List ℕ) (c z : ℕ) (o : Ok h w r) (O : Open h c) (
           let x : ℕ = endFrom 0 a in
           let et : h .tiles ≡ a ++ t ∷ [] = gap .tiles ∙ ap (λ (r : List Tile). a ++ t ∷ r) e in
           gave-by
-          (down-top c h (next-is ∙ top) ∙ ap (λ (n : ℕ). giving n (toTop c h)) (sym len)
+          (down-top c h (next-at ∙ top) ∙ ap (λ (n : ℕ). giving n (toTop c h)) (sym len)
           ∙ ap (λ (c : ℕ). giving s (toTop c h)) (O .at) ∙ ap (giving s) (to-top-is h a t et (o .shape)))
           (record {
             says = refl;
@@ -268,7 +184,7 @@ module _ (h : Heap) (w r : List ℕ) (c z : ℕ) (o : Ok h w r) (O : Open h c) (
           let a₁ : List Tile = a ++ t ∷ [] in
           let e₁ : h .tiles ≡ a₁ ++ u ∷ y = gap .tiles ∙ ap (λ (r : List Tile). a ++ t ∷ r) e ∙ sym (snoc-tiles a (u ∷ y) t) in
           let f : tiled a₁ × tiled (u ∷ y) = tiled-split a₁ (u ∷ y) (subst tiled e₁ (tiled-tiles h (o .shape))) in
-          absurd (omega (arith, top, ap (endFrom 0) e₁, end-append 0 a₁ (u ∷ y), after-is, end-le (endFrom 0 a₁ + u .size) y, f .1 .1))
+          absurd (omega (arith, top, ap (endFrom 0) e₁, end-append 0 a₁ (u ∷ y), after, end-le (endFrom 0 a₁ + u .size) y, f .1 .1))
 
   -- it does not: the next P is cleared, and it goes first in unsorted
   module _ (v : List ℕ) (ne : c + z ≡ getD r topWord 0 → ⊥) (ev : v ≡ put (note (c + z) z) (put (size (c + z) (sizeAt w (c + z)) 0) w)) where
@@ -283,7 +199,7 @@ module _ (h : Heap) (w r : List ℕ) (c z : ℕ) (o : Ok h w r) (O : Open h c) (
 
     pub cleared : Cleared
     cleared =
-        let B = beyond ne in
+        let B = beyond h w r c z o A ne in
         let u : Tile = B .u in
         let y : List Tile = B .y in
         let a₁ : List Tile = a ++ t ∷ [] in
@@ -297,7 +213,7 @@ module _ (h : Heap) (w r : List ℕ) (c z : ℕ) (o : Ok h w r) (O : Open h c) (
         let K : Kept h ts w ws = clear-kept h w a₁ y u e₁ s z (o .mem) in
         let q : v ≡ apply ws w =
         ev ∙ ap (λ (n : ℕ). put (note (c + z) z) (put (size (c + z) n 0) w)) (B .reads .size)
-        ∙ ap (λ (x : ℕ). put (note x z) (put (size x (u .size) 0) w)) (sym after-is) in
+        ∙ ap (λ (x : ℕ). put (note x z) (put (size x (u .size) 0) w)) (sym after) in
         let top : endFrom 0 ts ≡ topOf h = top-mid h a₁ (u ∷ []) (U ∷ []) y e₁ refl in
         let lo : Loose h₁ (endFrom 0 a) = omega (
           arith,
@@ -310,7 +226,7 @@ module _ (h : Heap) (w r : List ℕ) (c z : ℕ) (o : Ok h w r) (O : Open h c) (
         record {
           heap = h₁;
           ws = ws;
-          is = ap (λ (x : ℕ). clearP x z h) (sym after-is) ∙ clear-is h w a₁ y u e₁ s z;
+          is = ap (λ (x : ℕ). clearP x z h) (sym after) ∙ clear-is h w a₁ y u e₁ s z;
           bytes = q;
           ok = record { shape = K .shape; mem = subst (Mem h₁) (sym q) (K .mem); rec = o .rec ∙ sym (record-tiles h ts s top) };
           loose = subst (Loose h₁) (sym (O .at)) lo;
@@ -323,6 +239,6 @@ module _ (h : Heap) (w r : List ℕ) (c z : ℕ) (o : Ok h w r) (O : Open h c) (
     down-bin-gave D =
         let C = cleared in
         let r₁ : Ran (Unit {0}) = does (C .heap) (C .ws) in
-        gave-by (down-bin c (c + z) z h r₁ (λ e. ne (sym next-is ∙ e ∙ sym (ok-top h w r o))) next-is size-is (C .is))
+        gave-by (down-bin c (c + z) z h r₁ (λ e. ne (sym next-at ∙ e ∙ sym (ok-top h w r o))) next-at (size-is h w r c z o A) (C .is))
         (gave-giving (r₁ >>= (λ g. putFirst unsorted c g)) tt z
         (gave-then r₁ (λ g. putFirst unsorted c g) tt tt (record { says = refl; bytes = C .bytes; rec = C .ok .rec }) (D .does (C .heap) (C .ok) (C .loose))))

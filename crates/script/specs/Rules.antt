@@ -6,9 +6,9 @@ use lib.Dec.{eqb, leb}
 use Rattle.machine.specs.Lists.{both}
 use Rattle.machine.specs.declared.Answer.{Answer}
 use Rattle.machine.specs.declared.Answer.the-variants.{Done, Granted, Refused}
-use Rattle.script.specs.Grammar.{letterA, letterG, letterR, letterS}
+use Rattle.script.specs.Grammar.{letterA, letterG, letterR, letterZ, letterS}
 use Rattle.script.specs.declared.Line.{Line}
-use Rattle.script.specs.declared.Line.the-variants.{Open, Grant, Release, Settle, Other}
+use Rattle.script.specs.declared.Line.the-variants.{Open, Grant, Release, Resize, Settle, Other}
 
 abbrev pub mostOpened : ℕ
 mostOpened = 49152
@@ -23,14 +23,16 @@ later? k = not (first? k)
 abbrev pub inPlace? : ℕ → Line → Bool
 inPlace? k (Open n) = both (first? k) (leb n mostOpened)
 inPlace? k (Grant n) = later? k
-inPlace? k (Release n) = later? k
+inPlace? k (Release m) = later? k
+inPlace? k (Resize m n) = later? k
 inPlace? k Settle = later? k
 inPlace? k Other = false
 
 abbrev pub letterOf : Line → ℕ
 letterOf (Open n) = letterA
 letterOf (Grant n) = letterG
-letterOf (Release n) = letterR
+letterOf (Release m) = letterR
+letterOf (Resize m n) = letterZ
 letterOf Settle = letterS
 letterOf Other = 63
 
@@ -43,6 +45,7 @@ refused? (Refused x) = true
 abbrev pub endsBy? : Line → Answer → Bool
 endsBy? (Open n) x = refused? x
 endsBy? (Grant n) x = false
-endsBy? (Release n) x = false
+endsBy? (Release m) x = false
+endsBy? (Resize m n) x = false
 endsBy? Settle x = false
 endsBy? Other x = false

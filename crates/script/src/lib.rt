@@ -7,11 +7,12 @@ pub use rules::ends_by;
 pub use rules::in_place;
 pub use rules::letter_of;
 
-// A line of a script: open, grant, release, settle, or a line of another form.
+// A line of a script: open, grant, release, resize, settle, or a line of another form.
 pub enum Line {
     Open(u32),
     Grant(u32),
     Release(u32),
+    Resize { mem: u32, n: u32 },
     Settle,
     Other,
 }
@@ -22,8 +23,11 @@ pub enum Number {
     Nothing,
 }
 
-// The first 10 bytes of a line that is being read; a good line has at most 9.
+// How many bytes are kept of a line: one more than the longest good one has, which is a resize with two numbers of 7 digits.
+pub const KEPT_BYTES: usize = 18;
+
+// The first bytes of a line that is being read.
 pub struct LineText {
-    pub text: [u8; 10],
+    pub text: [u8; KEPT_BYTES],
     pub len: usize,
 }

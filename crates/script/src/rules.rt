@@ -15,6 +15,7 @@ pub fn in_place(k: u64, line: Line) -> bool
         Line::Open(n) => { if k == 1 { n <= MOST_OPENED } else { false } }
         Line::Grant(_) => k != 1,
         Line::Release(_) => k != 1,
+        Line::Resize { mem: _, n: _ } => k != 1,
         Line::Settle => k != 1,
         Line::Other => false,
     }
@@ -28,6 +29,7 @@ pub fn letter_of(line: Line) -> u8
         Line::Open(_) => b'A',
         Line::Grant(_) => b'G',
         Line::Release(_) => b'R',
+        Line::Resize { mem: _, n: _ } => b'Z',
         Line::Settle => b'S',
         Line::Other => b'?',
     }
@@ -51,6 +53,7 @@ pub fn ends_by(line: Line, x: Answer) -> bool
         Line::Open(_) => is_refused(x),
         Line::Grant(_) => false,
         Line::Release(_) => false,
+        Line::Resize { mem: _, n: _ } => false,
         Line::Settle => false,
         Line::Other => false,
     }

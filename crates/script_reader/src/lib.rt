@@ -2,8 +2,9 @@
 ghost use mathlib.Core.Path.{_≡_};
 ghost use mathlib.Core.List.{[], _∷_, _++_};
 ghost use Prim.Native.Nat.{_+_, _*_, _-_, _≤_, _<_};
-ghost use lib.ListN.{take};
-ghost use Rattle.script.specs.Grammar.{digit?, numberOf, alone, numbered, lineOf, kept, keptBytes};
+ghost use lib.ListN.{length, take};
+ghost use Rattle.script.specs.Grammar.{digit?, numberOf, alone, numbered, beforeBlank, resized, spaced, lineOf, kept, keptBytes};
+use script::KEPT_BYTES;
 use script::Line;
 use script::LineText;
 use script::Number;
@@ -12,18 +13,18 @@ pub fn no_bytes() -> LineText
     ensures { λ r. ⌜ kept r ≡ [] ⌝ }
 {
     LineText {
-        text: [0u8; 10],
+        text: [0u8; KEPT_BYTES],
         len: 0,
     }
 }
 
-// One byte more. Of a line longer than the longest good one the first 10 bytes are kept.
+// One byte more. Of a line longer than the longest good one the first 18 bytes are kept.
 pub fn feed(s: LineText, b: u8) -> LineText
     ensures { λ r. ⌜ kept r ≡ take keptBytes (kept s ++ (b ∷ [])) ⌝ }
 {
     let mut text = s.text;
     let len = s.len;
-    if len < 10 {
+    if len < KEPT_BYTES {
         text[len] = b;
         return LineText { text, len: len + 1 };
     }
@@ -95,6 +96,48 @@ fn line_numbered(x: u8, n: Number) -> Line
     Line::Other
 }
 
+// Where the first blank stands; the length where there is none.
+fn first_blank(t: &[u8]) -> usize
+    ensures { λ r. ⌜ r ≡ length (beforeBlank (now (t .entry))) ⌝ }
+    ensures { λ r. ⌜ r ≤ length (now (t .entry)) ⌝ }
+{
+    let mut i: usize = 0;
+    while i < t.len() {
+        if t[i] == b' ' {
+            return i;
+        }
+        i += 1;
+    }
+    i
+}
+
+// A line of Z and two numbers.
+fn line_resized(m: Number, n: Number) -> Line
+    ensures { λ r. ⌜ r ≡ resized m n ⌝ }
+{
+    let Number::Of(mem) = m else {
+        return Line::Other;
+    };
+    match n {
+        Number::Of(v) => Line::Resize { mem, n: v },
+        Number::Nothing => Line::Other,
+    }
+}
+
+// A line of a letter, a blank and the bytes behind it.
+fn line_spaced(x: u8, t: &[u8]) -> Line
+    ensures { λ r. ⌜ r ≡ spaced x (now (t .entry)) ⌝ }
+{
+    if x != b'Z' {
+        return line_numbered(x, number_of(t));
+    }
+    let at = first_blank(t);
+    if at == t.len() {
+        return Line::Other;
+    }
+    line_resized(number_of(&t[..at]), number_of(&t[at + 1..]))
+}
+
 pub fn line_of(t: &[u8]) -> Line
     ensures { λ r. ⌜ r ≡ lineOf (now (t .entry)) ⌝ }
 {
@@ -107,7 +150,7 @@ pub fn line_of(t: &[u8]) -> Line
     if t[1] != b' ' {
         return Line::Other;
     }
-    line_numbered(t[0], number_of(&t[2..]))
+    line_spaced(t[0], &t[2..])
 }
 
 // The line that was fed.
@@ -116,7 +159,7 @@ pub fn line_read(s: LineText) -> Line
 {
     let text = s.text;
     let len = s.len;
-    if len <= 10 {
+    if len <= KEPT_BYTES {
         return line_of(&text[..len]);
     }
     line_of(&text)

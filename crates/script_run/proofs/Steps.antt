@@ -11,9 +11,9 @@ use Rattle.machine.specs.Lists.{both}
 use Rattle.machine.specs.Calls.{After, after}
 use Rattle.machine.specs.declared.Answer.{Answer}
 use Rattle.script.specs.Rules.{inPlace?, letterOf, first?, endsBy?}
-use Rattle.script.specs.Grammar.{lineOf}
+use Rattle.script.specs.Grammar.{lineOf, keptBytes}
 use Rattle.script.specs.declared.Line.{Line}
-use Rattle.script.specs.declared.Line.the-variants.{Open, Grant, Release, Settle, Other}
+use Rattle.script.specs.declared.Line.the-variants.{Open, Grant, Release, Resize, Settle, Other}
 use Rattle.script_format.specs.Format.{answerText, questionText}
 use Rattle.script_run.specs.Run.{run, Step, step, lineCall, called, lengthOf, topAfter, ranStep, counted, placedStep, lineStep, byteStep, endStep}
 
@@ -60,6 +60,7 @@ opened-within k n (Open m) e h = go (first? k) e
     go false q = let z : _≡_ {A = ℕ} 0 1 = cc in absurd (omega arith)
 opened-within k n (Grant m) e h = h
 opened-within k n (Release m) e h = h
+opened-within k n (Resize m j) e h = h
 opened-within k n Settle e h = h
 opened-within k n Other e h = h
 
@@ -72,11 +73,11 @@ pub byte-newline : (b : ℕ) (a r t : List ℕ) (k n : ℕ) (e : Bool) {y : Step
 unfolding byteStep
 byte-newline b a r t k n e p q u = rw (p, q) (rw p at u)
 
-byte-fed : (b : ℕ) (a r t : List ℕ) (k n : ℕ) → (b ≡ 10 → ⊥) → step (run a r (take 10 (t ++ (b ∷ []))) k n false) [] ≡ byteStep b (run a r t k n false)
+byte-fed : (b : ℕ) (a r t : List ℕ) (k n : ℕ) → (b ≡ 10 → ⊥) → step (run a r (take keptBytes (t ++ (b ∷ []))) k n false) [] ≡ byteStep b (run a r t k n false)
 unfolding byteStep
 byte-fed b a r t k n q = rw (byteStep, ne-eqb b 10 q)
 
-pub byte-other : (b : ℕ) (a r t : List ℕ) (k n : ℕ) (e : Bool) {t′ : List ℕ} → e ≡ false → (b ≡ 10 → ⊥) → t′ ≡ take 10 (t ++ (b ∷ []))
+pub byte-other : (b : ℕ) (a r t : List ℕ) (k n : ℕ) (e : Bool) {t′ : List ℕ} → e ≡ false → (b ≡ 10 → ⊥) → t′ ≡ take keptBytes (t ++ (b ∷ []))
     → step (run a r t′ k n e) [] ≡ byteStep b (run a r t k n e)
 byte-other b a r t k n e p q s = rw (p, s) (byte-fed b a r t k n q)
 

@@ -6,12 +6,12 @@ use Prim.Native.Nat.{ℕ, _+_, _≤_}
 use lib.Dec.{eqb, ltb}
 use lib.ListN.{length, take, drop}
 use Rattle.le.specs.Number.{number}
-use Rattle.machine.specs.Calls.{After, after, openCall, grantCall, releaseCall, settleCall}
+use Rattle.machine.specs.Calls.{After, after, openCall, grantCall, releaseCall, resizeCall, settleCall}
 use Rattle.machine.specs.declared.Answer.the-variants.{Done}
 use Rattle.script.specs.Grammar.{lineOf, kept, keptBytes}
 use Rattle.script.specs.Rules.{inPlace?, letterOf, endsBy?}
 use Rattle.script.specs.declared.Line.{Line}
-use Rattle.script.specs.declared.Line.the-variants.{Open, Grant, Release, Settle, Other}
+use Rattle.script.specs.declared.Line.the-variants.{Open, Grant, Release, Resize, Settle, Other}
 use Rattle.script_format.specs.Format.{newline, answerText, questionText}
 use Rattle.script_run.specs.declared.Log.{Log}
 
@@ -29,6 +29,7 @@ abbrev pub lineCall : List ℕ → List ℕ → Line → After
 lineCall a r (Open n) = openCall a r
 lineCall a r (Grant n) = grantCall a r n
 lineCall a r (Release m) = releaseCall a r m
+lineCall a r (Resize m n) = resizeCall a r m n
 lineCall a r Settle = settleCall a r
 lineCall a r Other = after a r Done
 
@@ -37,6 +38,7 @@ abbrev pub lengthOf : Line → ℕ → ℕ
 lengthOf (Open n) m = n
 lengthOf (Grant n) m = m
 lengthOf (Release n) m = m
+lengthOf (Resize k n) m = m
 lengthOf Settle m = m
 lengthOf Other m = m
 

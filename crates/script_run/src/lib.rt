@@ -32,6 +32,9 @@ fn call(arena: &mut [u8], control: &mut [u8], line: Line) -> Answer
         Line::Release(m) => {
             return calls::release(arena, control, m as u64);
         }
+        Line::Resize { mem, n } => {
+            return calls::resize(arena, control, mem as u64, n as u64);
+        }
         Line::Settle => {
             return calls::settle(arena, control);
         }
@@ -56,6 +59,7 @@ fn length_of(line: Line, opened: usize) -> usize
         Line::Open(n) => n as usize,
         Line::Grant(_) => opened,
         Line::Release(_) => opened,
+        Line::Resize { mem: _, n: _ } => opened,
         Line::Settle => opened,
         Line::Other => opened,
     }

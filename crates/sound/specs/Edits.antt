@@ -1,9 +1,9 @@
 -- The primitives on tiles: what each comes to at a chunk in place, and that it keeps the heap's shape and words. All by one law: a middle is put in
 -- another's place (mid). Assumes nothing.
 use mathlib.Core.Path.{_≡_, refl, sym, ap, _∙_, subst}
-use mathlib.Core.List.{List, [], _∷_, _++_, append-assoc}
+use mathlib.Core.List.{List, [], _∷_, _++_, append-assoc, append-nil}
 use mathlib.Core.Logic.{⊎-elim}
-use Prim.Native.Nat.{ℕ, _+_, _-_, _/_, _%_, _≤_}
+use Prim.Native.Nat.{ℕ, _+_, _-_, _/_, _%_, _≤_, _<_}
 use native.Mathlib.Omega.{arith}
 use lib.ListN.{length, getD}
 use Rattle.sizes.specs.Layout.{prevWord}
@@ -11,10 +11,10 @@ use Rattle.machine.specs.Lists.{cnt}
 use Rattle.machine.specs.Count.{eq?, ind-other, cnt-here, cnt-there}
 use Rattle.machine.specs.Heap.{Tile, tile, Heap, withTiles, endFrom, startsFrom, upTo, since, hdSize, topOf, topSize, starts, sizeOf, total}
 use Rattle.machine.specs.Writes.{Write, who, put, apply, does, size, note}
-use Rattle.machine.specs.Primitives.{swallow, clearP, setP, setNote, cutAt, toTop}
+use Rattle.machine.specs.Primitives.{swallow, clearP, setP, setNote, cutAt, toTop, widen, trimAt, growTop}
 use Rattle.sound.specs.Relation.{all, tiled, tilesAt, Mem, Shape}
 use Rattle.sound.specs.Tiles.{zero-or, tiled-split, tiled-join, end-even, end-append, starts-append, Start, start, up-to, since-at, Place, place, tiles-split}
-use Rattle.sound.specs.Frames.{Starts, Grid, grid, field-lt, put-length, put-other, put-same, HeadW, retile, Within, words-mid}
+use Rattle.sound.specs.Frames.{end-all, Starts, Grid, grid, put-length, put-other, put-same, HeadW, retile, Within, words-mid}
 
 -- ---- what stands at the end of a
 pub tiles-at : (h : Heap) (a r : List Tile) → h .tiles ≡ a ++ r → tiled a → (upTo 0 (endFrom 0 a) (h .tiles) ≡ a) × (since 0 (endFrom 0 a) (h .tiles) ≡ r)
@@ -63,7 +63,7 @@ head-within : (o : ℕ) (n : List Tile) (ws : List Write) → o % 16 ≡ 0 → t
 head-within o n [] e f k = tt
 head-within o n (x ∷ ws) e f k =
     let s : Start n o (who x) = start n o (who x) f (k .1) in
-    (omega (arith, s .low), omega (arith, s .high, s .even, k .0, field-lt x), head-within o n ws e f (k .2))
+    (omega (arith, s .low), omega (arith, s .high, s .even, k .0), head-within o n ws e f (k .2))
 
 head-more : (L M : List ℕ) (ws : List Write) → ((x : ℕ) → 1 ≤ cnt x L → 1 ≤ cnt x M) → HeadW L ws → HeadW M ws
 head-more L M [] s k = tt
@@ -132,7 +132,28 @@ tiled-tiles h s = tiled-split (h .tiles) (tile (topSize h) 1 0 ∷ []) (s .sizes
 zeroth : (v : List ℕ) (c : ℕ) → getD v (prevWord c) 0 ≡ getD v (c / 8 + 0) 0
 zeroth v c = ap (λ (i : ℕ). getD v i 0) (let e : c / 8 ≡ c / 8 + 0 = omega arith in e)
 
--- ---- c takes in the next chunk, which no list has
+-- the words of a tile, and of two, whose size words are written; where P is clear, the previous size stands already
+module _ (S w : List ℕ) (g : Grid S (length w)) (c : ℕ) (mc : 1 ≤ cnt c S) (p n : ℕ) (old : p ≡ 0 → getD w (prevWord c) 0 ≡ n) where
+  one-word : (z : ℕ) → tilesAt (apply (size c z p ∷ []) w) c (tile z p n ∷ [])
+  one-word z = (
+    put-same S (length w) g (size c z p) (omega arith) w refl mc,
+    λ q. zeroth (put (size c z p) w) c ∙ put-other S (length w) g (size c z p) (omega arith) w c 0 mc mc (omega arith) (λ i j. omega arith) ∙ sym (zeroth w c) ∙ old q,
+    tt,
+  )
+
+  two-words : (b z : ℕ) → 1 ≤ b → 1 ≤ cnt (c + b) S → tilesAt (apply (size c b p ∷ size (c + b) z 1 ∷ []) w) c (tile b p n ∷ tile z 1 0 ∷ [])
+  two-words b z l mb =
+      let e : Write = size (c + b) z 1 in
+      let w1 : List ℕ = put (size c b p) w in
+      let same : (j : ℕ) → j < 2 → getD (put e w1) (c / 8 + j) 0 ≡ getD w1 (c / 8 + j) 0 = λ j lt.
+      put-other S (length w) g e (omega arith) w1 c j mb mc (omega arith) (λ q r. omega arith) in
+      let o = one-word b in (
+        same 1 (omega arith) ∙ o .0,
+        λ q. zeroth (put e w1) c ∙ same 0 (omega arith) ∙ sym (zeroth w1 c) ∙ o .1 q,
+        (put-same S (length w) g e (omega arith) w1 (put-length (size c b p) w) mb, (λ q. absurd (omega (arith, q))), tt),
+      )
+
+-- ---- c takes in the next chunk, which no list has: P set, or its own with its previous size
 module _ (h : Heap) (w : List ℕ) (a z : List Tile) (t u : Tile) (e : h .tiles ≡ a ++ t ∷ u ∷ z) (s : Shape h) where
   fa : tiled a × tiled (t ∷ u ∷ z)
   fa = tiled-split a (t ∷ u ∷ z) (subst tiled e (tiled-tiles h s))
@@ -143,15 +164,22 @@ module _ (h : Heap) (w : List ℕ) (a z : List Tile) (t u : Tile) (e : h .tiles 
       let p = tiles-at h a (t ∷ u ∷ z) e (f .0) in
       rw (p .0, p .1) (rw (size-next h a z t u e (tiled-join a (t ∷ []) (f .0) (f .1 .0, f .1 .1, f .1 .2, tt))))
 
-  pub swallow-kept : Mem h w → total (endFrom 0 a + t .size) h ≡ 0 → Kept h (a ++ tile (t .size + u .size) 1 0 ∷ z) w (size (endFrom 0 a) (t .size + u .size) 1 ∷ [])
-  swallow-kept k lo =
+  pub widen-is : widen (endFrom 0 a) h ≡ does (withTiles (a ++ tile (t .size + u .size) (t .p) (t .prev) ∷ z) h) (size (endFrom 0 a) (t .size + u .size) (t .p) ∷ [])
+  widen-is =
+      let f = fa in
+      let p = tiles-at h a (t ∷ u ∷ z) e (f .0) in
+      rw (p .0, p .1) (rw (size-next h a z t u e (tiled-join a (t ∷ []) (f .0) (f .1 .0, f .1 .1, f .1 .2, tt))))
+
+  whole-kept : (p n : ℕ) → p ≤ 1 → (p ≡ 0 → (t .p ≡ 0) × (t .prev ≡ n)) → Mem h w → total (endFrom 0 a + t .size) h ≡ 0
+      → Kept h (a ++ tile (t .size + u .size) p n ∷ z) w (size (endFrom 0 a) (t .size + u .size) p ∷ [])
+  whole-kept p n p1 own k lo =
       let f = fa in
       let c : ℕ = endFrom 0 a in
-      let U : Tile = tile (t .size + u .size) 1 0 in
+      let U : Tile = tile (t .size + u .size) p n in
       let ez : c + t .size + u .size ≡ c + (t .size + u .size) = omega arith in
-      mid h w (a ++ U ∷ z) a (t ∷ u ∷ []) (U ∷ []) (z ++ tile (topSize h) 1 0 ∷ []) (size c (t .size + u .size) 1 ∷ []) s k
+      mid h w (a ++ U ∷ z) a (t ∷ u ∷ []) (U ∷ []) (z ++ tile (topSize h) 1 0 ∷ []) (size c (t .size + u .size) p ∷ []) s k
       (all-mid h a (t ∷ u ∷ []) (U ∷ []) z e (omega arith))
-      (omega (arith, f .1 .0, f .1 .3 .0), omega (arith, f .1 .1), omega arith, tt) (omega arith)
+      (omega (arith, f .1 .0, f .1 .3 .0), omega (arith, f .1 .1), p1, tt) (omega arith)
       (λ x i. ⊎-elim
       (λ q. absurd (omega (arith, ap (λ (y : ℕ). total y h) q)))
       (λ q. omega (
@@ -165,7 +193,14 @@ module _ (h : Heap) (w : List ℕ) (a z : List Tile) (t u : Tile) (e : h .tiles 
       ))
       (eq? x (c + t .size)))
       (omega arith, cnt-here c [], tt)
-      (λ S g sub old. (put-same S (length w) g (size c (t .size + u .size) 1) w refl (sub c (cnt-here c [])), (λ n. absurd (omega (arith, n))), tt))
+      (λ S g sub old. one-word S w g c (sub c (cnt-here c [])) p n (λ q. old .1 (own q .0) ∙ own q .1) (t .size + u .size))
+
+  pub swallow-kept : Mem h w → total (endFrom 0 a + t .size) h ≡ 0 → Kept h (a ++ tile (t .size + u .size) 1 0 ∷ z) w (size (endFrom 0 a) (t .size + u .size) 1 ∷ [])
+  swallow-kept k lo = whole-kept 1 0 (omega arith) (λ q. absurd (omega (arith, q))) k lo
+
+  pub widen-kept : Mem h w → total (endFrom 0 a + t .size) h ≡ 0
+      → Kept h (a ++ tile (t .size + u .size) (t .p) (t .prev) ∷ z) w (size (endFrom 0 a) (t .size + u .size) (t .p) ∷ [])
+  widen-kept k lo = whole-kept (t .p) (t .prev) (fa .1 .2) (λ q. (q, refl)) k lo
 
 -- ---- P and the note of a chunk; a chunk is cut
 module _ (h : Heap) (w : List ℕ) (a z : List Tile) (u : Tile) (e : h .tiles ≡ a ++ u ∷ z) (s : Shape h) where
@@ -187,8 +222,8 @@ module _ (h : Heap) (w : List ℕ) (a z : List Tile) (u : Tile) (e : h .tiles �
       (omega arith, cnt-here c [], (omega arith, cnt-here c [], tt))
       (λ S g sub old.
       let mc : 1 ≤ cnt c S = sub c (cnt-here c []) in (
-        put-other S (length w) g (note c n) w1 c 1 mc mc (omega arith) (λ q. omega arith) ∙ put-same S (length w) g (size c (u .size) 0) w refl mc,
-        (λ p. zeroth (put (note c n) w1) c ∙ put-same S (length w) g (note c n) w1 l1 mc),
+        put-other S (length w) g (note c n) (omega arith) w1 c 1 mc mc (omega arith) (λ q. omega arith) ∙ put-same S (length w) g (size c (u .size) 0) (omega arith) w refl mc,
+        (λ p. zeroth (put (note c n) w1) c ∙ put-same S (length w) g (note c n) (omega arith) w1 l1 mc),
         tt,
       ))
 
@@ -203,7 +238,7 @@ module _ (h : Heap) (w : List ℕ) (a z : List Tile) (u : Tile) (e : h .tiles �
       mid h w (a ++ U ∷ z) a (u ∷ []) (U ∷ []) (z ++ tile (topSize h) 1 0 ∷ []) (size c (u .size) 1 ∷ []) s k
       (all-mid h a (u ∷ []) (U ∷ []) z e refl) (f .1 .0, f .1 .1, omega arith, tt) refl (λ x i. omega (arith, same-starts h a z u U e refl x))
       (omega arith, cnt-here c [], tt)
-      (λ S g sub old. (put-same S (length w) g (size c (u .size) 1) w refl (sub c (cnt-here c [])), (λ p. absurd (omega (arith, p))), tt))
+      (λ S g sub old. (put-same S (length w) g (size c (u .size) 1) (omega arith) w refl (sub c (cnt-here c [])), (λ p. absurd (omega (arith, p))), tt))
 
   pub note-is : (n : ℕ) → setNote (endFrom 0 a) n h ≡ does (withTiles (a ++ tile (u .size) (u .p) n ∷ z) h) (note (endFrom 0 a) n ∷ [])
   note-is n = let p = tiles-at h a (u ∷ z) e (fu .0) in rw (p .0, p .1)
@@ -218,9 +253,9 @@ module _ (h : Heap) (w : List ℕ) (a z : List Tile) (u : Tile) (e : h .tiles �
       (omega arith, cnt-here c [], tt)
       (λ S g sub old.
       let mc : 1 ≤ cnt c S = sub c (cnt-here c []) in (
-        put-other S (length w) g (note c n) w c 1 mc mc (omega arith) (λ q. omega arith)
+        put-other S (length w) g (note c n) (omega arith) w c 1 mc mc (omega arith) (λ q. omega arith)
             ∙ old .0,
-        (λ p. zeroth (put (note c n) w) c ∙ put-same S (length w) g (note c n) w refl mc),
+        (λ p. zeroth (put (note c n) w) c ∙ put-same S (length w) g (note c n) (omega arith) w refl mc),
         tt,
       ))
 
@@ -228,34 +263,39 @@ module _ (h : Heap) (w : List ℕ) (a z : List Tile) (u : Tile) (e : h .tiles �
       (size (endFrom 0 a) b 1 ∷ size (endFrom 0 a + b) (u .size - b) 1 ∷ [])
   cut-is b = let p = tiles-at h a (u ∷ z) e (fu .0) in rw (p .0, p .1)
 
-  pub cut-kept : (b : ℕ) → b % 16 ≡ 0 → 32 ≤ b → b + 32 ≤ u .size → Mem h w
-      → Kept h (a ++ tile b 1 0 ∷ tile (u .size - b) 1 0 ∷ z) w (size (endFrom 0 a) b 1 ∷ size (endFrom 0 a + b) (u .size - b) 1 ∷ [])
-  cut-kept b b16 b32 bu k =
+  parts-kept : (p n : ℕ) → p ≤ 1 → (p ≡ 0 → (u .p ≡ 0) × (u .prev ≡ n)) → (b : ℕ) → b % 16 ≡ 0 → 32 ≤ b → b + 32 ≤ u .size → Mem h w
+      → Kept h (a ++ tile b p n ∷ tile (u .size - b) 1 0 ∷ z) w (size (endFrom 0 a) b p ∷ size (endFrom 0 a + b) (u .size - b) 1 ∷ [])
+  parts-kept p n p1 own b b16 b32 bu k =
       let f = fu in
       let c : ℕ = endFrom 0 a in
-      let U : List Tile = tile b 1 0 ∷ tile (u .size - b) 1 0 ∷ [] in
-      let e1 : Write = size c b 1 in
-      let e2 : Write = size (c + b) (u .size - b) 1 in
-      let w1 : List ℕ = put e1 w in
+      let U : List Tile = tile b p n ∷ tile (u .size - b) 1 0 ∷ [] in
       let ez : c + b + (u .size - b) ≡ c + u .size = omega arith in
       let i1 : 1 ≤ cnt c (c ∷ (c + b) ∷ []) = cnt-here c ((c + b) ∷ []) in
       let i2 : 1 ≤ cnt (c + b) (c ∷ (c + b) ∷ []) = cnt-there (c + b) c ((c + b) ∷ []) (cnt-here (c + b) []) in
-      mid h w (a ++ tile b 1 0 ∷ tile (u .size - b) 1 0 ∷ z) a (u ∷ []) U (z ++ tile (topSize h) 1 0 ∷ []) (e1 ∷ e2 ∷ []) s k
-      (all-mid h a (u ∷ []) U z e (sym ez)) (b16, b32, omega arith, (omega (arith, f .1 .0), omega arith, omega arith, tt)) (sym ez)
+      mid h w (a ++ tile b p n ∷ tile (u .size - b) 1 0 ∷ z) a (u ∷ []) U (z ++ tile (topSize h) 1 0 ∷ []) (size c b p ∷ size (c + b) (u .size - b) 1 ∷ []) s k
+      (all-mid h a (u ∷ []) U z e (sym ez)) (b16, b32, p1, (omega (arith, f .1 .0), omega arith, omega arith, tt)) (sym ez)
       (λ x i. omega (
         arith,
         ap (λ (l : List Tile). cnt x (startsFrom 0 l)) e,
         starts-append 0 a (u ∷ z) x,
         starts-append 0 a
-            (tile b 1 0 ∷ tile (u .size - b) 1 0 ∷ z) x,
+            (tile b p n ∷ tile (u .size - b) 1 0 ∷ z) x,
         ap (λ (o : ℕ). cnt x (startsFrom o z)) ez,
       ))
       (omega arith, i1, (omega arith, i2, tt))
-      (λ S g sub old. (
-        put-other S (length w) g e2 w1 c 1 (sub (c + b) i2) (sub c i1) (omega arith) (λ q r. omega arith) ∙ put-same S (length w) g e1 w refl (sub c i1),
-        (λ p. absurd (omega (arith, p))),
-        (put-same S (length w) g e2 w1 (put-length e1 w) (sub (c + b) i2), (λ p. absurd (omega (arith, p))), tt),
-      ))
+      (λ S g sub old. two-words S w g c (sub c i1) p n (λ q. old .1 (own q .0) ∙ own q .1) b (u .size - b) (omega arith) (sub (c + b) i2))
+
+  pub cut-kept : (b : ℕ) → b % 16 ≡ 0 → 32 ≤ b → b + 32 ≤ u .size → Mem h w
+      → Kept h (a ++ tile b 1 0 ∷ tile (u .size - b) 1 0 ∷ z) w (size (endFrom 0 a) b 1 ∷ size (endFrom 0 a + b) (u .size - b) 1 ∷ [])
+  cut-kept = parts-kept 1 0 (omega arith) (λ q. absurd (omega (arith, q)))
+
+  pub trim-is : (b : ℕ) → trimAt (endFrom 0 a) b h ≡ does (withTiles (a ++ tile b (u .p) (u .prev) ∷ tile (u .size - b) 1 0 ∷ z) h)
+      (size (endFrom 0 a) b (u .p) ∷ size (endFrom 0 a + b) (u .size - b) 1 ∷ [])
+  trim-is b = let p = tiles-at h a (u ∷ z) e (fu .0) in rw (p .0, p .1)
+
+  pub trim-kept : (b : ℕ) → b % 16 ≡ 0 → 32 ≤ b → b + 32 ≤ u .size → Mem h w
+      → Kept h (a ++ tile b (u .p) (u .prev) ∷ tile (u .size - b) 1 0 ∷ z) w (size (endFrom 0 a) b (u .p) ∷ size (endFrom 0 a + b) (u .size - b) 1 ∷ [])
+  trim-kept = parts-kept (u .p) (u .prev) (fu .1 .2) (λ q. (q, refl))
 
 -- ---- the last chunk becomes part of the top; a chunk is cut off the top
 pub to-top-is : (h : Heap) (a : List Tile) (t : Tile) → h .tiles ≡ a ++ t ∷ [] → Shape h
@@ -280,31 +320,53 @@ to-top-kept h w a t e s k lo =
     (λ z. omega (arith, ap (λ (l : List Tile). cnt x (startsFrom 0 l)) e, starts-append 0 a (t ∷ []) x, ind-other x c z))
     (eq? x c))
     (omega arith, cnt-here c [], tt)
-    (λ S g sub old. (put-same S (length w) g (size c (h .len - c) 1) w refl (sub c (cnt-here c [])), (λ p. absurd (omega (arith, p))), tt))
+    (λ S g sub old. (put-same S (length w) g (size c (h .len - c) 1) (omega arith) w refl (sub c (cnt-here c [])), (λ p. absurd (omega (arith, p))), tt))
+
+-- the tiles m at the end, the top among them, become a chunk of b and a top
+end-kept : (h : Heap) (w : List ℕ) (a m : List Tile) (b p n : ℕ) → Shape h → Mem h w → all h ≡ a ++ m → b % 16 ≡ 0 → 32 ≤ b → p ≤ 1
+    → endFrom 0 a + b + 32 ≤ h .len → ((x : ℕ) → cnt x (starts h) ≤ cnt x (startsFrom 0 (a ++ tile b p n ∷ [])))
+    → (tilesAt w (endFrom 0 a) m → p ≡ 0 → getD w (prevWord (endFrom 0 a)) 0 ≡ n)
+    → Kept h (a ++ tile b p n ∷ []) w (size (endFrom 0 a) b p ∷ size (endFrom 0 a + b) (h .len - (endFrom 0 a + b)) 1 ∷ [])
+end-kept h w a m b p n s k e b16 b32 p1 room keep own =
+    let c : ℕ = endFrom 0 a in
+    let z : ℕ = h .len - (c + b) in
+    let fa : tiled a × tiled m = tiled-split a m (subst tiled e (s .sizes)) in
+    let len : endFrom c m ≡ h .len = sym (ap (endFrom 0) e ∙ end-append 0 a m) ∙ end-all h (s .sizes) in
+    let even : h .len % 16 ≡ 0 = sym (ap (λ (i : ℕ). i % 16) len) ∙ end-even c m (end-even 0 a refl (fa .0)) (fa .1) in
+    let i1 : 1 ≤ cnt c (c ∷ (c + b) ∷ []) = cnt-here c ((c + b) ∷ []) in
+    let i2 : 1 ≤ cnt (c + b) (c ∷ (c + b) ∷ []) = cnt-there (c + b) c ((c + b) ∷ []) (cnt-here (c + b) []) in
+    mid h w (a ++ tile b p n ∷ []) a m (tile b p n ∷ tile z 1 0 ∷ []) [] (size c b p ∷ size (c + b) z 1 ∷ []) s k
+    (e ∙ ap (λ (l : List Tile). a ++ l) (sym (append-nil m)), rw (snoc-end a (tile b p n)) (snoc-tiles a (tile z 1 0 ∷ []) (tile b p n)))
+    (b16, b32, p1, (omega (arith, end-even 0 a refl (fa .0)), omega arith, omega arith, tt)) (omega (arith, len))
+    (λ x i. keep x)
+    (omega arith, i1, (omega arith, i2, tt))
+    (λ S g sub old. two-words S w g c (sub c i1) p n (own old) b z (omega arith) (sub (c + b) i2))
 
 pub cut-top-kept : (h : Heap) (w : List ℕ) (b : ℕ) → Shape h → Mem h w → b % 16 ≡ 0 → 32 ≤ b → b + 32 ≤ topSize h
     → Kept h (h .tiles ++ tile b 1 0 ∷ []) w (size (topOf h) b 1 ∷ size (topOf h + b) (h .len - (topOf h + b)) 1 ∷ [])
 cut-top-kept h w b s k b16 b32 bu =
-    let a : List Tile = h .tiles in
-    let c : ℕ = endFrom 0 a in
-    let n : ℕ = h .len - c in
-    let m : ℕ = h .len - (c + b) in
-    let ft : tiled a × tiled (tile n 1 0 ∷ []) = tiled-split a (tile n 1 0 ∷ []) (s .sizes) in
-    let e1 : Write = size c b 1 in
-    let e2 : Write = size (c + b) m 1 in
-    let w1 : List ℕ = put e1 w in
-    let i1 : 1 ≤ cnt c (c ∷ (c + b) ∷ []) = cnt-here c ((c + b) ∷ []) in
-    let i2 : 1 ≤ cnt (c + b) (c ∷ (c + b) ∷ []) = cnt-there (c + b) c ((c + b) ∷ []) (cnt-here (c + b) []) in
-    mid h w (a ++ tile b 1 0 ∷ []) a (tile n 1 0 ∷ []) (tile b 1 0 ∷ tile m 1 0 ∷ []) [] (e1 ∷ e2 ∷ []) s k
-    (refl, rw (snoc-end a (tile b 1 0)) (snoc-tiles a (tile m 1 0 ∷ []) (tile b 1 0)))
-    (b16, b32, omega arith, (omega (arith, ft .1 .0), omega arith, omega arith, tt)) (omega arith)
-    (λ x i. omega (arith, starts-append 0 a (tile b 1 0 ∷ []) x))
-    (omega arith, i1, (omega arith, i2, tt))
-    (λ S g sub old. (
-      put-other S (length w) g e2 w1 c 1 (sub (c + b) i2) (sub c i1) (omega arith) (λ q r. omega arith) ∙ put-same S (length w) g e1 w refl (sub c i1),
-      (λ p. absurd (omega (arith, p))),
-      (put-same S (length w) g e2 w1 (put-length e1 w) (sub (c + b) i2), (λ p. absurd (omega (arith, p))), tt),
-    ))
+    end-kept h w (h .tiles) (tile (topSize h) 1 0 ∷ []) b 1 0 s k refl b16 b32 (omega arith) (omega arith)
+    (λ x. omega (arith, starts-append 0 (h .tiles) (tile b 1 0 ∷ []) x)) (λ o q. absurd (omega (arith, q)))
+
+-- the last chunk takes from the top
+pub grow-is : (h : Heap) (a : List Tile) (t : Tile) (b : ℕ) → h .tiles ≡ a ++ t ∷ [] → Shape h
+    → growTop (endFrom 0 a) b h ≡ does (withTiles (a ++ tile b (t .p) (t .prev) ∷ []) h)
+    (size (endFrom 0 a) b (t .p) ∷ size (endFrom 0 a + b) (h .len - (endFrom 0 a + b)) 1 ∷ [])
+grow-is h a t b e s = let p = tiles-at h a (t ∷ []) e (tiled-split a (t ∷ []) (subst tiled e (tiled-tiles h s)) .0) in rw (p .0, p .1)
+
+pub grow-kept : (h : Heap) (w : List ℕ) (a : List Tile) (t : Tile) (b : ℕ) → h .tiles ≡ a ++ t ∷ [] → Shape h → Mem h w → b % 16 ≡ 0 → 32 ≤ b
+    → endFrom 0 a + b + 32 ≤ h .len
+    → Kept h (a ++ tile b (t .p) (t .prev) ∷ []) w (size (endFrom 0 a) b (t .p) ∷ size (endFrom 0 a + b) (h .len - (endFrom 0 a + b)) 1 ∷ [])
+grow-kept h w a t b e s k b16 b32 room =
+    let f : tiled a × tiled (t ∷ []) = tiled-split a (t ∷ []) (subst tiled e (tiled-tiles h s)) in
+    end-kept h w a (t ∷ tile (topSize h) 1 0 ∷ []) b (t .p) (t .prev) s k
+    (ap (λ (l : List Tile). l ++ tile (topSize h) 1 0 ∷ []) e ∙ snoc-tiles a (tile (topSize h) 1 0 ∷ []) t) b16 b32 (f .1 .2) room
+    (λ x. omega (
+      arith,
+      ap (λ (l : List Tile). cnt x (startsFrom 0 l)) e,
+      starts-append 0 a (t ∷ []) x,
+      starts-append 0 a (tile b (t .p) (t .prev) ∷ []) x,
+    )) (λ o q. o .1 q)
 
 -- ---- a chunk's size
 pub size-place : (h : Heap) (x : ℕ) → Shape h → (P : Place (h .tiles) 0 x) → (sizeOf h x ≡ P .t .size) × (P .t .size % 16 ≡ 0) × (32 ≤ P .t .size) × (x % 16 ≡ 0)

@@ -1,5 +1,5 @@
 -- P and the end notes along the tiles, in parts: split, joined, and where the bins agree. By induction along the tiles. Assumes nothing.
-use mathlib.Core.Path.{_≡_}
+use mathlib.Core.Path.{_≡_, refl}
 use mathlib.Core.List.{List, [], _∷_, _++_}
 use Prim.Native.Nat.{ℕ, _+_, _≤_, _<_}
 use native.Mathlib.Omega.{arith}
@@ -19,6 +19,10 @@ lastB b o q (t ∷ ts) = lastB b (o + t .size) (b o) ts
 abbrev pub lastS : ℕ → List Tile → ℕ
 lastS s [] = s
 lastS s (t ∷ ts) = lastS (t .size) ts
+
+pub lastB-snoc : (b : ℕ → ℕ) (o q : ℕ) (a : List Tile) (t : Tile) → lastB b o q (a ++ t ∷ []) ≡ b (endFrom o a)
+lastB-snoc b o q [] t = refl
+lastB-snoc b o q (u ∷ a) t = lastB-snoc b (o + u .size) (b o) a t
 
 pub flags-split : (b : ℕ → ℕ) (o q s : ℕ) (a z : List Tile) → flags b o q s (a ++ z) → flags b o q s a × flags b (endFrom o a) (lastB b o q a) (lastS s a) z
 flags-split b o q s [] z k = (tt, k)

@@ -13,7 +13,7 @@ use Rattle.sizes.specs.Layout.{prevWord}
 use Rattle.machine.specs.Lists.{ind, cnt, cntAll}
 use Rattle.machine.specs.Count.{eq?, cnt-here, cnt-there, cnt-le-all}
 use Rattle.machine.specs.Heap.{Tile, tile, Heap, stack, bin, withTiles, withBin, endFrom, startsFrom, topOf, topSize, starts, total}
-use Rattle.machine.specs.Writes.{Write, who, field, value, put, apply, size, note, link, fwd, back}
+use Rattle.machine.specs.Writes.{Write, who, field, value, put, apply}
 use Rattle.sound.specs.Relation.{all, tiled, tilesAt, chain, links, Mem, Shape}
 use Rattle.sound.specs.Tiles.{tiled-split, end-even, end-append, starts-append, Start, start, starts-once, gap, tiles-split, tiles-join, tiles-cong}
 
@@ -70,23 +70,16 @@ grid h n f e = record {
   spaced = λ x y. gap (all h) 0 x y f;
 }
 
-pub field-lt : (e : Write) → field e < 4
-field-lt (size c s p) = omega arith
-field-lt (note c s) = omega arith
-field-lt (link c x) = omega arith
-field-lt (fwd c x) = omega arith
-field-lt (back c x) = omega arith
-
 abbrev pub Sub : List ℕ → List ℕ → Type 0
 Sub l S = (x : ℕ) → 1 ≤ cnt x l → 1 ≤ cnt x S
 
--- each of ws writes a field of a chunk of S, and not the j-th of one of l
+-- each of ws writes one of the first four words of a chunk of S, and not the j-th of one of l
 abbrev pub Off : List ℕ → ℕ → List ℕ → List Write → Type 0
 Off S j l [] = Unit {0}
-Off S j l (e ∷ ws) = (1 ≤ cnt (who e) S) × ((cnt (who e) l ≡ 0) ⊎ (field e ≡ j → ⊥)) × Off S j l ws
+Off S j l (e ∷ ws) = (1 ≤ cnt (who e) S) × (field e < 4) × ((cnt (who e) l ≡ 0) ⊎ (field e ≡ j → ⊥)) × Off S j l ws
 
 pub put-length : (e : Write) (w : List ℕ) → length (put e w) ≡ length w
-put-length e w = length-set w (who e / 8 + field e) (value e)
+put-length e w = length-set w (who e / 8 + field e) (value e w)
 
 pub apply-length : (ws : List Write) (w : List ℕ) → length (apply ws w) ≡ length w
 apply-length [] w = refl
@@ -97,29 +90,29 @@ apply-append [] b w = refl
 apply-append (e ∷ a) b w = apply-append a b (put e w)
 
 module _ (S : List ℕ) (n : ℕ) (g : Grid S n) where
-  pub put-other : (e : Write) (w : List ℕ) (x j : ℕ) → 1 ≤ cnt (who e) S → 1 ≤ cnt x S → j < 4 → (x ≡ who e → field e ≡ j → ⊥)
+  pub put-other : (e : Write) → field e < 4 → (w : List ℕ) (x j : ℕ) → 1 ≤ cnt (who e) S → 1 ≤ cnt x S → j < 4 → (x ≡ who e → field e ≡ j → ⊥)
       → getD (put e w) (x / 8 + j) 0 ≡ getD w (x / 8 + j) 0
-  put-other e w x j me mx hj d = getD-set-other w (who e / 8 + field e) (x / 8 + j) (value e) 0
+  put-other e lt w x j me mx hj d = getD-set-other w (who e / 8 + field e) (x / 8 + j) (value e w) 0
       (λ q. ⊎-elim
       (λ z. d z (omega (arith, ap (λ (y : ℕ). y / 8) z)))
-      (λ z. ⊎-elim (λ l. omega (arith, g .even x mx, g .even (who e) me, field-lt e))
-      (λ l. omega (arith, g .even x mx, g .even (who e) me, field-lt e)) (g .spaced x (who e) mx me z))
+      (λ z. ⊎-elim (λ l. omega (arith, g .even x mx, g .even (who e) me))
+      (λ l. omega (arith, g .even x mx, g .even (who e) me)) (g .spaced x (who e) mx me z))
       (eq? x (who e)))
 
-  pub put-same : (e : Write) (w : List ℕ) → length w ≡ n → 1 ≤ cnt (who e) S → getD (put e w) (who e / 8 + field e) 0 ≡ value e
-  put-same e w l me = getD-set-same w (who e / 8 + field e) (value e) 0 (omega (arith, g .inside (who e) me, field-lt e))
+  pub put-same : (e : Write) → field e < 4 → (w : List ℕ) → length w ≡ n → 1 ≤ cnt (who e) S → getD (put e w) (who e / 8 + field e) 0 ≡ value e w
+  put-same e lt w l me = getD-set-same w (who e / 8 + field e) (value e w) 0 (omega (arith, g .inside (who e) me))
 
   pub agree : (ws : List Write) (w : List ℕ) (j : ℕ) (l : List ℕ) → j < 4 → Sub l S → Off S j l ws → Agree w (apply ws w) j l
   agree [] w j l hj s o x m = refl
   agree (e ∷ ws) w j l hj s o x m =
-      agree ws (put e w) j l hj s (o .2) x m
-      ∙ put-other e w x j (o .0) (s x m) hj
-      (λ q k. ⊎-elim (λ z. omega (arith, ap (λ (y : ℕ). cnt y l) q)) (λ z. z k) (o .1))
+      agree ws (put e w) j l hj s (o .3) x m
+      ∙ put-other e (o .1) w x j (o .0) (s x m) hj
+      (λ q k. ⊎-elim (λ z. omega (arith, ap (λ (y : ℕ). cnt y l) q)) (λ z. z k) (o .2))
 
--- ---- writes of links only, of chunks of L; writes of size words and notes only, of chunks of S
+-- ---- writes of links only, words 2 and 3, of chunks of L; writes of size words and notes only, of chunks of S
 abbrev pub LinkW : List ℕ → List Write → Type 0
 LinkW L [] = Unit {0}
-LinkW L (e ∷ ws) = (2 ≤ field e) × (1 ≤ cnt (who e) L) × LinkW L ws
+LinkW L (e ∷ ws) = (field e / 2 ≡ 1) × (1 ≤ cnt (who e) L) × LinkW L ws
 
 abbrev pub HeadW : List ℕ → List Write → Type 0
 HeadW S [] = Unit {0}
@@ -131,15 +124,15 @@ link-append L (e ∷ a) b j k = (j .0, j .1, link-append L a b (j .2) k)
 
 pub link-low : (S L l : List ℕ) (j : ℕ) (ws : List Write) → Sub L S → j < 2 → LinkW L ws → Off S j l ws
 link-low S L l j [] s hj k = tt
-link-low S L l j (e ∷ ws) s hj k = (s (who e) (k .1), inr (λ q. omega (arith, k .0)), link-low S L l j ws s hj (k .2))
+link-low S L l j (e ∷ ws) s hj k = (s (who e) (k .1), omega (arith, k .0), inr (λ q. omega (arith, k .0)), link-low S L l j ws s hj (k .2))
 
 pub link-out : (S L l : List ℕ) (j : ℕ) (ws : List Write) → Sub L S → ((x : ℕ) → 1 ≤ cnt x L → cnt x l ≡ 0) → LinkW L ws → Off S j l ws
 link-out S L l j [] s d k = tt
-link-out S L l j (e ∷ ws) s d k = (s (who e) (k .1), inl (d (who e) (k .1)), link-out S L l j ws s d (k .2))
+link-out S L l j (e ∷ ws) s d k = (s (who e) (k .1), omega (arith, k .0), inl (d (who e) (k .1)), link-out S L l j ws s d (k .2))
 
 pub head-off : (S l : List ℕ) (j : ℕ) (ws : List Write) → 2 ≤ j → HeadW S ws → Off S j l ws
 head-off S l j [] hj k = tt
-head-off S l j (e ∷ ws) hj k = (k .1, inr (λ q. omega (arith, k .0)), head-off S l j ws hj (k .2))
+head-off S l j (e ∷ ws) hj k = (k .1, omega (arith, k .0), inr (λ q. omega (arith, k .0)), head-off S l j ws hj (k .2))
 
 -- words that agree at the first two fields of each tile
 pub tiles-agree : (w v : List ℕ) (o : ℕ) (ts : List Tile) → Agree w v 0 (startsFrom o ts) → Agree w v 1 (startsFrom o ts) → tilesAt w o ts → tilesAt v o ts
@@ -215,7 +208,7 @@ pub outside : (lo hi : ℕ) (ws : List Write) (w : List ℕ) (i : ℕ) → Withi
 outside lo hi [] w i k d = refl
 outside lo hi (e ∷ ws) w i k d =
     outside lo hi ws (put e w) i (k .2) d
-    ∙ getD-set-other w (who e / 8 + field e) i (value e) 0 (λ q. ⊎-elim (λ l. omega (arith, k .0)) (λ l. omega (arith, k .1)) d)
+    ∙ getD-set-other w (who e / 8 + field e) i (value e w) 0 (λ q. ⊎-elim (λ l. omega (arith, k .0)) (λ l. omega (arith, k .1)) d)
 
 -- another middle of the same length, whose words are written
 pub words-mid : (w : List ℕ) (ws : List Write) (a m n z : List Tile) → tiled (a ++ (m ++ z)) → tiled n → endFrom (endFrom 0 a) m ≡ endFrom (endFrom 0 a) n

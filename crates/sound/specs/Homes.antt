@@ -128,3 +128,19 @@ homes-same h a r u v e s q p m =
     (inl (omega arith)) i (omega (arith, ind-other y (endFrom 0 a) z)))
     (eq? y (endFrom 0 a)))
     m
+
+-- two chunks that no list has become one
+pub homes-whole : (h : Heap) (a r : List Tile) (t u v : Tile) → h .tiles ≡ a ++ t ∷ u ∷ r → Shape h → v .size ≡ t .size + u .size → v .p ≤ 1
+    → total (endFrom 0 a) h ≡ 0 → total (endFrom 0 a + t .size) h ≡ 0 → Homes h → Homes (withTiles (a ++ v ∷ r) h)
+homes-whole h a r t u v e s q p tc tn m =
+    let c : ℕ = endFrom 0 a in
+    let f : tiled a × tiled (t ∷ u ∷ r) = tiled-split a (t ∷ u ∷ r) (subst tiled e (tiled-tiles h s)) in
+    homes-tiles h (a ++ v ∷ r)
+    (λ y i. sizes-mid h (a ++ v ∷ r) a (t ∷ u ∷ []) (v ∷ []) r y s (tiled-tiles h s)
+    (omega (arith, f .1 .0, f .1 .3 .0), omega (arith, f .1 .1), p, tt) e refl (inl (omega arith)) i
+    (omega (
+      arith,
+      ind-other y c (λ q. omega (arith, ap (λ (z : ℕ). total z h) q)),
+      ind-other y (c + t .size) (λ q. omega (arith, ap (λ (z : ℕ). total z h) q)),
+    )))
+    m

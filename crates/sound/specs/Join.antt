@@ -21,7 +21,7 @@ use Rattle.sound.specs.Tiles.{zero-or, tiled-split, end-le, end-append, 
 use Rattle.sound.specs.Lists.{cut-cnt, in-range, unlink-shape, unlink-loose, unlink-mem, link-shape, link-mem}
 use Rattle.sound.specs.Edits.{tiles-at, size-at, snoc-end, snoc-tiles, top-mid, all-mid, Kept, tiled-tiles, swallow-is, swallow-kept, clear-is, clear-kept, to-top-is, to-top-kept}
 use Rattle.sound.specs.Flags.{flagsAfter, lastB, lastS, flags-split, flags-join, flags-below, lastB-below, flags-above, after-above, flags-after}
-use Rattle.sound.specs.Homes.{homes-tiles, sizes-mid, homes-unlink, homes-link}
+use Rattle.sound.specs.Homes.{homes-tiles, sizes-mid, homes-unlink, homes-link, homes-whole}
 use Rattle.sound.specs.Ends.{Ends, ends-more, ends-then, ends-giving, ends-by}
 
 -- ---- how often the bins have y after a chunk left or came
@@ -69,22 +69,12 @@ unlink-swallow-ends h w a r t u j x e s o k mx tc tn =
     let U : Tile = tile (t .size + u .size) 1 0 in
     let s₁ : Shape h₁ = unlink-shape h j x s mx in
     let K : Kept h₁ (a ++ U ∷ r) v (size c (t .size + u .size) 1 ∷ []) = swallow-kept h₁ v a r t u e s₁ (unlink-mem h w j x s k mx) tn in
-    let f : tiled a × tiled (t ∷ u ∷ r) = tiled-split a (t ∷ u ∷ r) (subst tiled e (tiled-tiles h s)) in
     ends-more ws (swallow c h₁) (rw (swallow-is h₁ v a r t u e s₁) (record {
       mem = K .mem;
       now = record {
         same = refl;
         shape = K .shape;
-        homes = homes-tiles h₁ (a ++ U ∷ r)
-            (λ y i. sizes-mid h₁ (a ++ U ∷ r) a (t ∷ u ∷ []) (U ∷ []) r y s₁ (tiled-tiles h s)
-            (omega (arith, f .1 .0, f .1 .3 .0), omega (arith, f .1 .1), omega arith, tt) e refl (inl (omega arith)) i
-            (omega (
-              arith,
-              ind-other y c (λ q. omega (arith, ap (λ (z : ℕ). total z h₁) q)),
-              ind-other y (c + t .size)
-                  (λ q. omega (arith, ap (λ (z : ℕ). total z h₁) q)),
-            )))
-            (homes-unlink h j x mx o);
+        homes = homes-whole h₁ a r t u U e s₁ refl (omega arith) tc tn (homes-unlink h j x mx o);
       };
     }))
 

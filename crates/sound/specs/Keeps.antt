@@ -1,4 +1,4 @@
--- Every step keeps a sound heap and its words: one law for each step of release, settle and grant, from any sound heap. What was shown of each step with
+-- Every step keeps a sound heap and its words: one law for each step of release, settle, grant and resize, from any sound heap. What was shown of each step with
 -- its answer and its loose chunks is read off here. Assumes nothing.
 use mathlib.Core.Path.{_≡_, refl}
 use mathlib.Core.List.{List, [], _∷_}
@@ -10,6 +10,7 @@ use Rattle.machine.specs.Heap.{Heap, stack, bin, sizeOf, opened, recordOf}
 use Rattle.machine.specs.Writes.{apply, Ran, heapOf, writes, size}
 use Rattle.machine.specs.Release.{releasePast, release, drain, drains, consolidate, emptying, joining, settle}
 use Rattle.machine.specs.Grant.{step1, step2, step3, step4, turn, sweep, step5, step8, step6, step7, step9, pass, again, from4, seek, grant}
+use Rattle.machine.specs.Resize.{resize}
 use Rattle.sound.specs.Relation.{Mem, Loose, Good, Sound}
 use Rattle.sound.specs.Ends.{Ends}
 use Rattle.sound.specs.Moves.{nil, one, any}
@@ -21,6 +22,7 @@ use Rattle.sound.specs.Small.{step1-leaves, step2-leaves, step3-leaves, 
 use Rattle.sound.specs.Sweep.{Turned, turn-leaves, sweep-leaves, step5-leaves}
 use Rattle.sound.specs.Large.{step6-leaves, step7-leaves, step9-leaves}
 use Rattle.sound.specs.Grant.{pass-leaves, again-leaves, from4-leaves, seek-leaves, grant-leaves}
+use Rattle.sound.specs.Resize.{resize-resized}
 use Rattle.sound.specs.Opened.{opened-ends}
 use Rattle.machine.specs.declared.{Got.Got, Got.the-variants.At, Got.the-variants.Nothing, Turn.Turn}
 use Rattle.machine.specs.declared.Turn.the-variants as T
@@ -118,6 +120,10 @@ module _ (b : ℕ) (b16 : b % 16 ≡ 0) (b32 : 32 ≤ b) (h : Heap) (w : List �
   pub grant-ends : Ends (grant b h) w Good
   grant-ends = found-ends (grant b h) (grant-leaves b b16 b32 h w g m)
 
+  -- ---- resize
+  pub resize-ends : (c : ℕ) → Loose h c → Ends (resize c b h) w Good
+  resize-ends c lo = leaves-ends (resize-resized h w c b g m lo b16 b32 .leaves) (found-good b h)
+
 -- ---- the calls' steps, on words and record: what is sound stays sound
 ends-sound : {A : Type 0} {r : Ran A} {w : List ℕ} → Ends r w Good → Sound (heapOf r) (apply (writes r) w) (recordOf (heapOf r))
 ends-sound e = record { good = e .now; mem = e .mem; rec = refl }
@@ -134,3 +140,7 @@ module _ (h : Heap) (w r : List ℕ) (s : Sound h w r) where
 
   pub grant-sound : (b : ℕ) → b % 16 ≡ 0 → 32 ≤ b → Sound (heapOf (grant b h)) (apply (writes (grant b h)) w) (recordOf (heapOf (grant b h)))
   grant-sound b b16 b32 = ends-sound (grant-ends b b16 b32 h w (s .good) (s .mem))
+
+  pub resize-sound : (c b : ℕ) → Loose h c → b % 16 ≡ 0 → 32 ≤ b
+      → Sound (heapOf (resize c b h)) (apply (writes (resize c b h)) w) (recordOf (heapOf (resize c b h)))
+  resize-sound c b lo b16 b32 = ends-sound (resize-ends b b16 b32 h w (s .good) (s .mem) c lo)

@@ -93,14 +93,14 @@ module _ (S : List ℕ) (n : ℕ) (g : Grid S n) where
   fwd-links w lw p [] k m sub j = tt
   fwd-links w lw p (x ∷ []) k m sub j =
       let mx : 1 ≤ cnt x S = omega (arith, sub x, ind-same x) in
-      (put-same S n g (fwd x m) w lw mx, put-other S n g (fwd x m) w x 3 mx mx (omega arith) (λ q. omega arith) ∙ j .1, tt)
+      (put-same S n g (fwd x m) (omega arith) w lw mx, put-other S n g (fwd x m) (omega arith) w x 3 mx mx (omega arith) (λ q. omega arith) ∙ j .1, tt)
   fwd-links w lw p (x ∷ y ∷ zs) k m sub j =
       let z : ℕ = lst y zs in
       let mx : 1 ≤ cnt x S = omega (arith, sub x, ind-same x) in
       let mz : 1 ≤ cnt z S = omega (arith, sub z, lst-in y zs) in
       let ne : x ≡ z → ⊥ = λ e. omega (arith, g .once x, sub x, ind-same x, lst-in y zs, ap (λ (u : ℕ). cnt u (y ∷ zs)) e) in (
-        put-other S n g (fwd z m) w x 2 mz mx (omega arith) (λ q r. ne q) ∙ j .0,
-        put-other S n g (fwd z m) w x 3 mz mx (omega arith) (λ q r. ne q) ∙ j .1,
+        put-other S n g (fwd z m) (omega arith) w x 2 mz mx (omega arith) (λ q r. ne q) ∙ j .0,
+        put-other S n g (fwd z m) (omega arith) w x 3 mz mx (omega arith) (λ q r. ne q) ∙ j .1,
         fwd-links w lw x (y ∷ zs) k m (λ u. omega (arith, sub u)) (j .2),
       )
 
@@ -111,11 +111,11 @@ module _ (S : List ℕ) (n : ℕ) (g : Grid S n) where
       let v : List ℕ = apply (back y q ∷ []) w in
       let sl : Sub ys S = λ x m. omega (arith, sub x) in
       let out : cnt y ys ≡ 0 = omega (arith, g .once y, sub y, ind-same y) in (
-        put-other S n g (back y q) w y 2 my my (omega arith) (λ e. omega arith) ∙ j .0,
-        put-same S n g (back y q) w lw my,
+        put-other S n g (back y q) (omega arith) w y 2 my my (omega arith) (λ e. omega arith) ∙ j .0,
+        put-same S n g (back y q) (omega arith) w lw my,
         links-cong w v y ys k
-            (agree S n g (back y q ∷ []) w 2 ys (omega arith) sl (my, inr (omega arith), tt))
-            (agree S n g (back y q ∷ []) w 3 ys (omega arith) sl (my, inl out, tt)) (j .2),
+            (agree S n g (back y q ∷ []) w 2 ys (omega arith) sl (my, omega arith, inr (omega arith), tt))
+            (agree S n g (back y q ∷ []) w 3 ys (omega arith) sl (my, omega arith, inl out, tt)) (j .2),
       )
 
   pub unlink-links : (w : List ℕ) → length w ≡ n → (xs ys : List ℕ) (c : ℕ) → Part (xs ++ c ∷ ys) → links w none64 (xs ++ c ∷ ys) none64
@@ -169,9 +169,9 @@ module _ (S : List ℕ) (n : ℕ) (g : Grid S n) where
       rw apply-append (links-join (apply (backTo ys c) w1) none64 xs (c ∷ ys) none64
       (links-frame w1 (backTo ys c) ys none64 xs c (back-w ys c) yS xS yx
       (fwd-links w0 l0 none64 xs m c sx (links-frame w ws0 (c ∷ []) none64 xs m lw0 cS xS cx (k .0)))) (
-        keep 2 (omega arith) c (cnt-here c []) ∙ put-other S n g (back c q) (put (fwd c m) w) c 2 mc mc (omega arith) (λ e. omega arith)
-            ∙ put-same S n g (fwd c m) w lw mc,
-        keep 3 (omega arith) c (cnt-here c []) ∙ put-same S n g (back c q) (put (fwd c m) w) (put-length (fwd c m) w ∙ lw) mc,
+        keep 2 (omega arith) c (cnt-here c []) ∙ put-other S n g (back c q) (omega arith) (put (fwd c m) w) c 2 mc mc (omega arith) (λ e. omega arith)
+            ∙ put-same S n g (fwd c m) (omega arith) w lw mc,
+        keep 3 (omega arith) c (cnt-here c []) ∙ put-same S n g (back c q) (omega arith) (put (fwd c m) w) (put-length (fwd c m) w ∙ lw) mc,
         back-links w1 l1 q c ys none64 sy
             (links-frame w0 (fwdTo xs c) xs q ys none64 (fwd-w xs c) xS yS xy
             (links-frame w ws0 (c ∷ []) q ys none64 lw0 cS yS cy (k .1))),

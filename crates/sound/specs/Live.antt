@@ -1,6 +1,8 @@
--- Live blocks: what release, settle and grant do to the loose chunks. Every other loose chunk stays loose, of its size, and none of its usable words is
--- written; release takes its chunk away, and grant gives one that was not loose before. Read off the counts of each step. Assumes nothing.
-use mathlib.Core.Path.{_≡_, refl, sym, ap, subst}
+-- Live blocks: what release, settle, grant and resize do to the loose chunks. Every other loose chunk stays loose, of its size, and none of its usable words
+-- is written; release takes its chunk away, grant gives one that was not loose before, and resize does both or neither. Read off the counts of each step.
+-- Assumes nothing.
+use mathlib.Core.Path.{_≡_, refl, sym, ap, _∙_, subst}
+use mathlib.Core.Logic.{⊎-elim}
 use mathlib.Core.List.{List}
 use mathlib.Core.Bool.{true}
 use Prim.Native.Nat.{ℕ, _+_, _/_, _%_, _≤_}
@@ -9,11 +11,12 @@ use lib.Dec.{eqb, ltb}
 use lib.ListN.{getD}
 use borrow.Author.Tests.{eq-eqb, eqb-true, lt-ltb, ltb-true}
 use Rattle.machine.specs.Lists.{both, cnt}
-use Rattle.machine.specs.Count.{ind-same, ind-other}
-use Rattle.machine.specs.Heap.{Heap, starts, sizeOf, total, live?}
+use Rattle.machine.specs.Count.{eq?, ind-same, ind-other}
+use Rattle.machine.specs.Heap.{Heap, starts, sizeOf, pOf, total, live?}
 use Rattle.machine.specs.Writes.{apply, Ran, heapOf, writes, ran}
 use Rattle.machine.specs.Release.{release, consolidate, settle}
 use Rattle.machine.specs.Grant.{grant}
+use Rattle.machine.specs.Resize.{resize}
 use Rattle.sound.specs.Relation.{Mem, Shape, Loose, Good}
 use Rattle.sound.specs.Tiles.{starts-once}
 use Rattle.sound.specs.Edits.{tiled-tiles}
@@ -23,6 +26,7 @@ use Rattle.sound.specs.Leaves.{Leaves, gave, Still, Cached, Found}
 use Rattle.sound.specs.Release.{both-true, release-leaves}
 use Rattle.sound.specs.Settle.{Consolidated, consolidate-leaves, Settled, settle-leaves}
 use Rattle.sound.specs.Grant.{grant-leaves}
+use Rattle.sound.specs.Resize.{Resized, standing, resize-resized}
 use Rattle.machine.specs.declared.{Got.Got, Got.the-variants.At, Got.the-variants.Nothing}
 
 -- ---- live, as release asks it, is loose
@@ -104,7 +108,52 @@ found-gives b h w (ran g ws Nothing) s l = record {
   only = λ x e lo. omega (arith, l .moved .count x);
 }
 
--- ---- release, settle, grant
+-- ---- all but c stay; refused, c stays too; else the block that is answered is loose, and has of c's usable words all that it has room for. It is c, or c goes
+-- and it comes
+pub record Resizes (c b : ℕ) (h : Heap) (w : List ℕ) (r : Ran Got) : Type 0 where
+  pub tame : Tame (But c) h r
+  pub refused : answerOf r ≡ Nothing → Stays h r
+  pub given : (d : ℕ) → answerOf r ≡ At d → Loose (heapOf r) d × (b ≤ sizeOf (heapOf r) d)
+  pub words : (d : ℕ) → answerOf r ≡ At d → (i : ℕ) → 2 ≤ i → i ≤ sizeOf h c / 8 → i ≤ sizeOf (heapOf r) d / 8
+      → getD (apply (writes r) w) (d / 8 + i) 0 ≡ getD w (c / 8 + i) 0
+  pub moves : (d : ℕ) → (d ≡ c → ⊥) → answerOf r ≡ At d → (Loose (heapOf r) c → ⊥) × (Loose h d → ⊥)
+  pub only : (x : ℕ) → (answerOf r ≡ At x → ⊥) → Loose (heapOf r) x → Loose h x
+
+resized-resizes : (c b : ℕ) (k h : Heap) (w : List ℕ) (r : Ran Got) → Shape h → Loose h c → Resized c b k h w r → Resizes c b h w r
+resized-resizes c b k h w (ran g ws (At e)) s lc R =
+    let L = R .leaves in
+    let once : (x : ℕ) → cnt x (starts g) ≤ 1 = λ x. starts-once (g .tiles) 0 x (tiled-tiles g (L .now .0 .shape)) in
+    record {
+      tame = moved-tame (λ x y. ind-other x c y) (L .moved);
+      refused = λ q. absurd (let z : _≡_ {A = ℕ} 0 1 = cc in omega arith);
+      given = λ d q.
+          let p : e ≡ d = cc in
+          subst (λ (d : ℕ). Loose g d × (b ≤ sizeOf g d)) p (
+            ⊎-elim
+                (λ y. omega (arith, L .moved .count e, ap (λ (x : ℕ). one x e) y, ap (λ (x : ℕ). total x h) y, ap (λ (x : ℕ). cnt x (starts h)) y, lc))
+                (λ y. omega (arith, L .moved .count e, ind-same e, ind-other e c y, s .own e)) (eq? e c),
+            L .now .1,
+          );
+      words = λ d q. let p : e ≡ d = cc in
+          subst (λ (d : ℕ). (i : ℕ) → 2 ≤ i → i ≤ sizeOf h c / 8 → i ≤ sizeOf g d / 8 → getD (apply ws w) (d / 8 + i) 0 ≡ getD w (c / 8 + i) 0) p (R .words);
+      moves = λ d n q. let p : e ≡ d = cc in (
+        (λ lo. omega (arith, L .moved .count c, ind-same c, ind-other c e (λ y. n (sym (y ∙ p))), once c, lo, lc, starts-once (h .tiles) 0 c (tiled-tiles h s))),
+        λ lo. omega (arith, L .moved .count d, ap (λ (y : ℕ). one y d) p, ind-same d, ind-other d c n, lo, once d, L .now .0 .shape .own d),
+      );
+      only = λ x q lo. omega (arith, L .moved .count x, ind-other x e (λ y. q (ap At (sym y))));
+    }
+resized-resizes c b k h w (ran g ws Nothing) s lc R =
+    let L = R .leaves in
+    record {
+      tame = moved-tame (λ x y. ind-other x c y) (L .moved);
+      refused = λ q. moved-stays h (ran g ws Nothing) (R .refused refl);
+      given = λ d q. absurd (let z : _≡_ {A = ℕ} 0 1 = cc in omega arith);
+      words = λ d q. absurd (let z : _≡_ {A = ℕ} 0 1 = cc in omega arith);
+      moves = λ d n q. absurd (let z : _≡_ {A = ℕ} 0 1 = cc in omega arith);
+      only = λ x q lo. omega (arith, L .moved .count x);
+    }
+
+-- ---- release, settle, grant, resize
 pub release-goes : (h : Heap) (w : List ℕ) (c : ℕ) → Good h → Mem h w → Loose h c → Goes c h (release c h)
 release-goes h w c g m lo = moved-goes c h (release c h) (g .shape) (release-leaves h w c g m lo .moved)
 
@@ -114,9 +163,22 @@ settle-stays h w g m = moved-stays h (settle h) (settle-leaves h w g m .moved)
 pub grant-gives : (b : ℕ) → b % 16 ≡ 0 → 32 ≤ b → (h : Heap) (w : List ℕ) → Good h → Mem h w → Gives b h (grant b h)
 grant-gives b b16 b32 h w g m = found-gives b h w (grant b h) (g .shape) (grant-leaves b b16 b32 h w g m)
 
--- ---- a refused grant leaves the cache lists and the last remainder as they were
+pub resize-resizes : (b : ℕ) → b % 16 ≡ 0 → 32 ≤ b → (h : Heap) (w : List ℕ) → Good h → Mem h w → (c : ℕ) → Loose h c → Resizes c b h w (resize c b h)
+resize-resizes b b16 b32 h w g m c lo = resized-resizes c b (standing c b h) h w (resize c b h) (g .shape) lo (resize-resized h w c b g m lo b16 b32)
+
+-- not moved, it keeps its own P as it stands
+pub resize-own-p : (b : ℕ) → b % 16 ≡ 0 → 32 ≤ b → (h : Heap) (w : List ℕ) → Good h → Mem h w → (c : ℕ) → Loose h c → answerOf (resize c b h) ≡ At c
+    → pOf (heapOf (resize c b h)) c ≡ pOf (standing c b h) c
+resize-own-p b b16 b32 h w g m c lo = resize-resized h w c b g m lo b16 b32 .own
+
+-- ---- a refused grant, and a refused resize, leaves the cache lists and the last remainder as they were
 pub grant-refused : (b : ℕ) → b % 16 ≡ 0 → 32 ≤ b → (h : Heap) (w : List ℕ) → Good h → Mem h w → answerOf (grant b h) ≡ Nothing → Still Cached h (heapOf (grant b h))
 grant-refused b b16 b32 h w g m e = subst (λ (x : Got). Found b h x (heapOf (grant b h))) e (grant-leaves b b16 b32 h w g m .now) .1
+
+pub resize-refused : (b : ℕ) → b % 16 ≡ 0 → 32 ≤ b → (h : Heap) (w : List ℕ) → Good h → Mem h w → (c : ℕ) → Loose h c → answerOf (resize c b h) ≡ Nothing
+    → Still Cached h (heapOf (resize c b h))
+resize-refused b b16 b32 h w g m c lo e =
+    subst (λ (x : Got). Found b h x (heapOf (resize c b h))) e (resize-resized h w c b g m lo b16 b32 .leaves .now) .1
 
 -- ---- consolidation leaves every fast list empty, and the cache lists as they were
 pub consolidate-empties : (h : Heap) (w : List ℕ) → Good h → Mem h w → Consolidated h (heapOf (consolidate h))

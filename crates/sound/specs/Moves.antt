@@ -11,12 +11,12 @@ use Rattle.sizes.specs.Limits.{none64}
 use Rattle.machine.specs.Lists.{hd, tl, ind, cnt}
 use Rattle.machine.specs.Count.{eq?, ind-same, ind-other, cnt-here, cntAll-set}
 use Rattle.machine.specs.Heap.{Tile, tile, Heap, stack, bin, withTiles, endFrom, startsFrom, topOf, starts, sizeOf, next, total}
-use Rattle.machine.specs.Writes.{Write, Ran, heapOf, writes, giving, more, _>>=_, size, note, link, ran}
-use Rattle.machine.specs.Primitives.{push, pop, linkIn, unlink, swallow, clearP, setP, setNote, cutAt, toTop, cutTop, setRemainder}
+use Rattle.machine.specs.Writes.{Write, Ran, heapOf, writes, does, giving, more, _>>=_, size, note, link, ran}
+use Rattle.machine.specs.Primitives.{push, pop, linkIn, unlink, swallow, clearP, setP, setNote, cutAt, toTop, cutTop, setRemainder, widen, trimAt, growTop}
 use Rattle.sound.specs.Relation.{tiled, Shape, Loose}
 use Rattle.sound.specs.Tiles.{tiled-split, starts-append, starts-once}
 use Rattle.sound.specs.Frames.{starts-all}
-use Rattle.sound.specs.Edits.{size-at, snoc-end, same-starts, tiled-tiles, swallow-is, clear-is, set-is, note-is, cut-is, to-top-is}
+use Rattle.sound.specs.Edits.{size-at, snoc-end, same-starts, tiled-tiles, swallow-is, clear-is, set-is, note-is, cut-is, to-top-is, widen-is, trim-is, grow-is}
 use Rattle.sound.specs.Homes.{sizes-at}
 use Rattle.sound.specs.Join.{binned-unlink, binned-link}
 use Rattle.sound.specs.Spares.{Spares, spares-append, spare-links, unlink-spares, link-spares, spare-size, spare-note}
@@ -120,15 +120,16 @@ pop-moved h k c l s hk e = record {
 
 -- ---- tiles: the chunk at the end of a takes in the next one
 module _ (h : Heap) (a z : List Tile) (t u : Tile) (e : h .tiles ≡ a ++ t ∷ u ∷ z) (s : Shape h) where
-  pub swallow-moved : Moved h (swallow (endFrom 0 a) h) (any (one (endFrom 0 a))) (λ x. one (endFrom 0 a) x + one (endFrom 0 a + t .size) x)
-  swallow-moved =
+  whole-moved : (p n : ℕ) → p ≤ 1 → Moved h (does (withTiles (a ++ tile (t .size + u .size) p n ∷ z) h) (size (endFrom 0 a) (t .size + u .size) p ∷ []))
+      (any (one (endFrom 0 a))) (λ x. one (endFrom 0 a) x + one (endFrom 0 a + t .size) x)
+  whole-moved p n p1 =
       let c : ℕ = endFrom 0 a in
-      let n : ℕ = c + t .size in
-      let U : Tile = tile (t .size + u .size) 1 0 in
+      let d : ℕ = c + t .size in
+      let U : Tile = tile (t .size + u .size) p n in
       let ts : List Tile = a ++ U ∷ z in
       let f : tiled a × tiled (t ∷ u ∷ z) = tiled-split a (t ∷ u ∷ z) (subst tiled e (tiled-tiles h s)) in
       let ez : c + t .size + u .size ≡ c + (t .size + u .size) = omega arith in
-      let cs : (x : ℕ) → cnt x (startsFrom 0 ts) + one n x ≡ cnt x (starts h) = λ x.
+      let cs : (x : ℕ) → cnt x (startsFrom 0 ts) + one d x ≡ cnt x (starts h) = λ x.
       omega (
         arith,
         ap (λ (l : List Tile). cnt x (startsFrom 0 l)) e,
@@ -137,13 +138,20 @@ module _ (h : Heap) (a z : List Tile) (t u : Tile) (e : h .tiles ≡ a ++ t ∷ 
         ap
             (λ (o : ℕ). cnt x (startsFrom o z)) ez,
       ) in
-      moved-by (swallow-is h [] a z t u e s) (record {
+      record {
         count = λ x. omega (arith, cs x);
         same = λ x lo y. sizes-at h ts a (t ∷ u ∷ []) (U ∷ []) z x (tiled-tiles h s)
-            (omega (arith, f .1 .0, f .1 .3 .0), omega (arith, f .1 .1), omega arith, tt) e refl (inl (omega arith)) (omega arith) (omega arith);
-        spare = λ x lo y. spare-size h x c (t .size + u .size) 1 s lo
+            (omega (arith, f .1 .0, f .1 .3 .0), omega (arith, f .1 .1), p1, tt) e refl (inl (omega arith)) (omega arith) (omega arith);
+        spare = λ x lo y. spare-size h x c (t .size + u .size) p s lo
             (omega (arith, starts-all h c, ap (λ (l : List Tile). cnt c (startsFrom 0 l)) e, starts-append 0 a (t ∷ u ∷ z) c, ind-same c));
-      })
+      }
+
+  pub swallow-moved : Moved h (swallow (endFrom 0 a) h) (any (one (endFrom 0 a))) (λ x. one (endFrom 0 a) x + one (endFrom 0 a + t .size) x)
+  swallow-moved = moved-by (swallow-is h [] a z t u e s) (whole-moved 1 0 (omega arith))
+
+  pub widen-moved : Moved h (widen (endFrom 0 a) h) (any (one (endFrom 0 a))) (λ x. one (endFrom 0 a) x + one (endFrom 0 a + t .size) x)
+  widen-moved = moved-by (widen-is h [] a z t u e s)
+      (whole-moved (t .p) (t .prev) (tiled-split a (t ∷ u ∷ z) (subst tiled e (tiled-tiles h s)) .1 .2))
 
 -- ---- P and the note of a chunk u; a chunk u is cut
 module _ (h : Heap) (a z : List Tile) (u : Tile) (e : h .tiles ≡ a ++ u ∷ z) (s : Shape h) where
@@ -200,12 +208,13 @@ module _ (h : Heap) (a z : List Tile) (u : Tile) (e : h .tiles ≡ a ++ u ∷ z)
         );
       })
 
-  pub cut-moved : (b : ℕ) → b % 16 ≡ 0 → 32 ≤ b → b + 32 ≤ u .size → Shape (withTiles (a ++ tile b 1 0 ∷ tile (u .size - b) 1 0 ∷ z) h)
-      → Moved h (cutAt (endFrom 0 a) b h) (any (λ x. one (endFrom 0 a) x + one (endFrom 0 a + b) x)) (one (endFrom 0 a))
-  cut-moved b b16 b32 bu s₁ =
+  parts-moved : (p n : ℕ) → p ≤ 1 → (b : ℕ) → b % 16 ≡ 0 → 32 ≤ b → b + 32 ≤ u .size → Shape (withTiles (a ++ tile b p n ∷ tile (u .size - b) 1 0 ∷ z) h)
+      → Moved h (does (withTiles (a ++ tile b p n ∷ tile (u .size - b) 1 0 ∷ z) h) (size (endFrom 0 a) b p ∷ size (endFrom 0 a + b) (u .size - b) 1 ∷ []))
+      (any (λ x. one (endFrom 0 a) x + one (endFrom 0 a + b) x)) (one (endFrom 0 a))
+  parts-moved p n p1 b b16 b32 bu s₁ =
       let f = fu in
       let c : ℕ = endFrom 0 a in
-      let ts : List Tile = a ++ tile b 1 0 ∷ tile (u .size - b) 1 0 ∷ z in
+      let ts : List Tile = a ++ tile b p n ∷ tile (u .size - b) 1 0 ∷ z in
       let h₁ : Heap = withTiles ts h in
       let ez : c + b + (u .size - b) ≡ c + u .size = omega arith in
       let cs : (x : ℕ) → cnt x (starts h₁) ≡ cnt x (starts h) + one (c + b) x = λ x.
@@ -214,23 +223,31 @@ module _ (h : Heap) (a z : List Tile) (u : Tile) (e : h .tiles ≡ a ++ u ∷ z)
         ap (λ (l : List Tile). cnt x (startsFrom 0 l)) e,
         starts-append 0 a (u ∷ z) x,
         starts-append 0 a
-            (tile b 1 0 ∷ tile (u .size - b) 1 0 ∷ z) x,
+            (tile b p n ∷ tile (u .size - b) 1 0 ∷ z) x,
         ap (λ (o : ℕ). cnt x (startsFrom o z)) ez,
       ) in
       let sz : (x : ℕ) → Loose h x → one c x ≡ 0 → sizeOf h₁ x ≡ sizeOf h x = λ x lo y.
-      sizes-at h ts a (u ∷ []) (tile b 1 0 ∷ tile (u .size - b) 1 0 ∷ []) z x (tiled-tiles h s)
-      (b16, b32, omega arith, (omega (arith, f .1 .0), omega arith, omega arith, tt)) e refl (inl (omega arith)) (omega arith) (omega arith) in
+      sizes-at h ts a (u ∷ []) (tile b p n ∷ tile (u .size - b) 1 0 ∷ []) z x (tiled-tiles h s)
+      (b16, b32, p1, (omega (arith, f .1 .0), omega arith, omega arith, tt)) e refl (inl (omega arith)) (omega arith) (omega arith) in
       let i = here in
-      moved-by (cut-is h [] a z u e s b) (record {
+      record {
         count = λ x. omega (arith, cs x);
         same = sz;
         spare = λ x lo y.
             let lo₁ : Loose h₁ x = omega (arith, cs x) in (
-              spare-size h x c b 1 s lo (omega (arith, starts-all h c)) .0,
+              spare-size h x c b p s lo (omega (arith, starts-all h c)) .0,
               subst (λ (n : ℕ). Spares x n (size (c + b) (u .size - b) 1 ∷ [])) (sz x lo y)
                   (spare-size h₁ x (c + b) (u .size - b) 1 s₁ lo₁ (omega (arith, starts-all h₁ (c + b), cs (c + b), ind-same (c + b)))),
             );
-      })
+      }
+
+  pub cut-moved : (b : ℕ) → b % 16 ≡ 0 → 32 ≤ b → b + 32 ≤ u .size → Shape (withTiles (a ++ tile b 1 0 ∷ tile (u .size - b) 1 0 ∷ z) h)
+      → Moved h (cutAt (endFrom 0 a) b h) (any (λ x. one (endFrom 0 a) x + one (endFrom 0 a + b) x)) (one (endFrom 0 a))
+  cut-moved b b16 b32 bu s₁ = moved-by (cut-is h [] a z u e s b) (parts-moved 1 0 (omega arith) b b16 b32 bu s₁)
+
+  pub trim-moved : (b : ℕ) → b % 16 ≡ 0 → 32 ≤ b → b + 32 ≤ u .size → Shape (withTiles (a ++ tile b (u .p) (u .prev) ∷ tile (u .size - b) 1 0 ∷ z) h)
+      → Moved h (trimAt (endFrom 0 a) b h) (any (λ x. one (endFrom 0 a) x + one (endFrom 0 a + b) x)) (one (endFrom 0 a))
+  trim-moved b b16 b32 bu s₁ = moved-by (trim-is h [] a z u e s b) (parts-moved (u .p) (u .prev) (fu .1 .2) b b16 b32 bu s₁)
 
 -- ---- the last chunk becomes part of the top; a chunk is cut off the top
 pub to-top-moved : (h : Heap) (a : List Tile) (t : Tile) → h .tiles ≡ a ++ t ∷ [] → Shape h → Moved h (toTop (endFrom 0 a) h) (any nil) (one (endFrom 0 a))
@@ -264,3 +281,28 @@ cut-top-moved h b s b16 b32 s₁ =
                 (omega (arith, starts-all h₁ (c + b), ap (λ (o : ℕ). ind (eqb (c + b) o)) (snoc-end a (tile b 1 0)), ind-same (c + b)))),
           );
     }
+
+-- the last chunk takes from the top
+pub grow-moved : (h : Heap) (a : List Tile) (t : Tile) (b : ℕ) → h .tiles ≡ a ++ t ∷ [] → Shape h → b % 16 ≡ 0 → 32 ≤ b
+    → Shape (withTiles (a ++ tile b (t .p) (t .prev) ∷ []) h) → Moved h (growTop (endFrom 0 a) b h) (any (one (endFrom 0 a))) (one (endFrom 0 a))
+grow-moved h a t b e s b16 b32 s₁ =
+    let c : ℕ = endFrom 0 a in
+    let A : Tile = tile b (t .p) (t .prev) in
+    let h₁ : Heap = withTiles (a ++ A ∷ []) h in
+    let f : tiled a × tiled (t ∷ []) = tiled-split a (t ∷ []) (subst tiled e (tiled-tiles h s)) in
+    let old : (x : ℕ) → cnt x (starts h) ≡ cnt x (startsFrom 0 a) + one c x = λ x.
+    omega (arith, ap (λ (l : List Tile). cnt x (startsFrom 0 l)) e, starts-append 0 a (t ∷ []) x) in
+    let cs : (x : ℕ) → cnt x (starts h₁) ≡ cnt x (starts h) = λ x. omega (arith, old x, starts-append 0 a (A ∷ []) x) in
+    let sz : (x : ℕ) → Loose h x → one c x ≡ 0 → sizeOf h₁ x ≡ sizeOf h x = λ x lo y.
+    sizes-at h (a ++ A ∷ []) a (t ∷ []) (A ∷ []) [] x (tiled-tiles h s) (b16, b32, f .1 .2, tt) e refl (inr refl) (omega arith) (omega arith) in
+    moved-by (grow-is h a t b e s) (record {
+      count = λ x. omega (arith, cs x);
+      same = sz;
+      spare = λ x lo y.
+          let lo₁ : Loose h₁ x = omega (arith, cs x) in (
+            spare-size h x c b (t .p) s lo (omega (arith, starts-all h c, old c, ind-same c)) .0,
+            subst (λ (n : ℕ). Spares x n (size (c + b) (h .len - (c + b)) 1 ∷ [])) (sz x lo y)
+                (spare-size h₁ x (c + b) (h .len - (c + b)) 1 s₁ lo₁
+                (omega (arith, starts-all h₁ (c + b), ap (λ (o : ℕ). ind (eqb (c + b) o)) (snoc-end a A), ind-same (c + b)))),
+          );
+    })

@@ -12,11 +12,11 @@ use Rattle.sizes.specs.Limits.{none64}
 use Rattle.machine.specs.Lists.{hd, lst, pre, post, ind, cnt}
 use Rattle.machine.specs.Count.{eq?, ind-other, cnt-append, cnt-here, cnt-le-all}
 use Rattle.machine.specs.Heap.{Tile, tile, Heap, bin, endFrom, startsFrom, topSize, starts, sizeOf}
-use Rattle.machine.specs.Writes.{Write, who, field, value, put, apply, writes, size, note}
+use Rattle.machine.specs.Writes.{Write, who, field, value, put, apply, Ran, ran, heapOf, writes, more, _>>=_, size, note}
 use Rattle.machine.specs.Primitives.{fwdTo, backTo, linkIn, unlink}
 use Rattle.sound.specs.Relation.{all, tiled, Shape, Loose}
 use Rattle.sound.specs.Tiles.{zero-or, tiled-split, starts-append, Start, start, starts-once, Place, place}
-use Rattle.sound.specs.Frames.{Starts, starts-all, field-lt, Sub, LinkW, link-append}
+use Rattle.sound.specs.Frames.{Starts, starts-all, Sub, LinkW, link-append}
 use Rattle.sound.specs.Lists.{cut-cnt, fwd-w, back-w, link-more}
 use Rattle.sound.specs.Edits.{size-at, tiled-tiles, size-32, size-16}
 
@@ -29,11 +29,22 @@ pub spared : (x s : ℕ) (ws : List Write) (w : List ℕ) (i : ℕ) → Spares x
 spared x s [] w i k l m = refl
 spared x s (e ∷ ws) w i k l m =
     spared x s ws (put e w) i (k .1) l m
-    ∙ getD-set-other w (who e / 8 + field e) i (value e) 0 (λ q. ⊎-elim (λ z. omega arith) (λ z. omega arith) (k .0))
+    ∙ getD-set-other w (who e / 8 + field e) i (value e w) 0 (λ q. ⊎-elim (λ z. omega arith) (λ z. omega arith) (k .0))
 
 pub spares-append : (x s : ℕ) (a b : List Write) → Spares x s a → Spares x s b → Spares x s (a ++ b)
 spares-append x s [] b j k = k
 spares-append x s (e ∷ a) b j k = (j .0, spares-append x s a b (j .1) k)
+
+pub spares-then : {A B : Type 0} (r : Ran A) (f : Heap → Ran B) (x s : ℕ) → Spares x s (writes r) → Spares x s (writes (f (heapOf r))) → Spares x s (writes (r >>= f))
+spares-then {A} {B} (ran h ws a) f x s j k = go (f h) k
+  where
+    go : (q : Ran B) → Spares x s (writes q) → Spares x s (writes (more ws q))
+    go (ran g vs b) k = spares-append x s ws vs j k
+
+-- of a smaller block at the same place
+pub spares-less : (x s m : ℕ) (ws : List Write) → m ≤ s → Spares x s ws → Spares x m ws
+spares-less x s m [] l k = tt
+spares-less x s m (e ∷ ws) l k = (⊎-elim (λ z. inl z) (λ z. inr (omega arith)) (k .0), spares-less x s m ws l (k .1))
 
 -- a chunk's start lies before x, is x, or lies after x's end
 pub clear-of : (h : Heap) (x y : ℕ) → Shape h → 1 ≤ cnt x (starts h) → 1 ≤ cnt y (Starts h)
@@ -57,6 +68,16 @@ clear-of h x y s mx my =
     (λ z. let g : Start (P .a) 0 y = start (P .a) 0 y (f .0) z in inl (omega (arith, P .at, g .high)))
     (zero-or (cnt y (startsFrom 0 (P .a))))
 
+-- two chunks lie apart
+pub chunks-apart : (h : Heap) (x y : ℕ) → Shape h → 1 ≤ cnt x (starts h) → 1 ≤ cnt y (starts h) → (x ≡ y → ⊥) → (x + sizeOf h x ≤ y) ⊎ (y + sizeOf h y ≤ x)
+chunks-apart h x y s mx my n = ⊎-elim
+    (λ l. ⊎-elim
+    (λ i. absurd (omega arith))
+    (λ i. ⊎-elim (λ j. absurd (n j)) (λ j. inr j) i)
+    (clear-of h y x s my (omega (arith, starts-all h x))))
+    (λ i. ⊎-elim (λ j. absurd (n (sym j))) (λ j. inl j) i)
+    (clear-of h x y s mx (omega (arith, starts-all h y)))
+
 -- a write of a link of another chunk
 pub spare-links : (h : Heap) (x : ℕ) (L : List ℕ) (ws : List Write) → Shape h → 1 ≤ cnt x (starts h) → Sub L (Starts h) → cnt x L ≡ 0 → LinkW L ws
     → Spares x (sizeOf h x) ws
@@ -65,7 +86,7 @@ spare-links h x L (e ∷ ws) s mx sub out k =
     let gy : Start (all h) 0 (who e) = start (all h) 0 (who e) (s .sizes) (sub (who e) (k .1)) in
     let gx : Start (h .tiles) 0 x = start (h .tiles) 0 x (tiled-tiles h s) mx in (
       ⊎-elim
-          (λ z. inl (omega (arith, field-lt e, gy .even, gx .even)))
+          (λ z. inl (omega (arith, k .0, gy .even, gx .even)))
           (λ z. ⊎-elim
           (λ q. absurd (omega (arith, k .1, ap (λ (y : ℕ). cnt y L) q)))
           (λ q. inr (omega (arith, k .0)))

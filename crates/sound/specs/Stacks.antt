@@ -90,7 +90,7 @@ push-ends h w k c hk g m lo sz qk sh =
             (agree S (length w) G ws w 1 S (omega arith) (λ x k. k) (link-low S (c ∷ []) S 1 ws sc (omega arith) lw)) (m .words);
         chains = λ j. set-cases (chain v) (h .stacks) k l j hk′
             (λ e. (
-              put-same S (length w) G (link c (hd none64 (stack h k))) w refl mc,
+              put-same S (length w) G (link c (hd none64 (stack h k))) (omega arith) w refl mc,
               chain-cong w v (stack h k) (ag 2 (stack h k) (omega arith) (λ y. omega (arith, cnt-le-all y (h .stacks) k))) (m .chains k),
             ))
             (λ e. chain-cong w v (stack h j) (ag 2 (stack h j) (omega arith) (λ y. omega (arith, cnt-le-all y (h .stacks) j))) (m .chains j));

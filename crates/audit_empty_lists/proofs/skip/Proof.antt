@@ -1,4 +1,4 @@
--- `audit_empty_lists::skip` meets its contract: eight cache lists at a time, and then one by one. Assumes nothing.
+-- `audit_empty_lists::skip` meets its contract: from a bin on bins alone, else eight cache lists at a time, and then one by one. Assumes nothing.
 use Prim.Native.Nat.{_-_}
 use Rattle.audit_empty_lists.specs.Skips.{Skipped}
 use Rattle.audit_empty_lists.specs.Runs.{skipped-none, skipped-then, skipped-caches}
@@ -14,8 +14,14 @@ Inv-loop r i j₀ j = Skipped r i j
 abbrev μ-loop : tie.MeasureT-loop
 μ-loop r i j₀ j = 200 - j
 
+skip-bins-requires : tie.Need-skip-bins-requires Inv-loop μ-loop
+skip-bins-requires c κs = search needs
+
+returns : tie.Need-returns Inv-loop μ-loop
+returns c = search needs
+
 loop-holds : tie.Need-loop-holds Inv-loop μ-loop
-loop-holds c = skipped-none _ _ (c .before .pre .1)
+loop-holds c = skipped-none _ _ (c .before .before .pre .1)
 
 cast-eight-none : tie.Need-cast-eight-none Inv-loop μ-loop
 cast-eight-none c = search needs
@@ -44,14 +50,14 @@ loop-less c = search needs
 loop-again : tie.Need-loop-again Inv-loop μ-loop
 loop-again c =
     let l = c .before .before .before .before .before .loop in
-    skipped-caches _ _ (l .j) (omega (arith, c .before .before .before .before .loop-test .taken)) (l .inv) (c .before .before .before .eight-none .ensures (not-false _ (c .before .before .if1 .left)))
-    (c .before .eight-zero .ensures (not-false _ (c .if2 .left)))
+    skipped-caches _ _ (l .j) (omega (arith, c .before .before .before .before .loop-test .taken)) (l .inv) (c .before .before .before .eight-none .ensures (not-false _ (c .before .before .if2 .left)))
+    (c .before .eight-zero .ensures (not-false _ (c .if3 .left)))
 
 skip-caches-requires : tie.Need-skip-caches-requires Inv-loop μ-loop
 skip-caches-requires c κs = search needs
 
-returns : tie.Need-returns Inv-loop μ-loop
-returns c = skipped-then _ _ _ _ (c .before .before .loop .inv) (c .skip-caches .ensures)
+returns-2 : tie.Need-returns-2 Inv-loop μ-loop
+returns-2 c = skipped-then _ _ _ _ (c .before .before .loop .inv) (c .skip-caches .ensures)
 
 pub skip-spec : {M : Type 1} → statement M
 skip-spec =
@@ -59,6 +65,8 @@ skip-spec =
     (tie.spec
     Inv-loop
     μ-loop
+    skip-bins-requires
+    returns
     loop-holds
     cast-eight-none
     add-eight-none
@@ -70,4 +78,4 @@ skip-spec =
     loop-less
     loop-again
     skip-caches-requires
-    returns)
+    returns-2)

@@ -56,11 +56,11 @@ loop-again c =
     let l = c .before .before .before .before .before .loop in
     skipped-cache _ _ _ (c .before .before .before .before .loop-test .taken) (l .inv) (c .before .before .if1 .left) (c .if2 .left)
 
-skip-fast-requires : tie.Need-skip-fast-requires Inv-loop μ-loop
-skip-fast-requires c κs = (c .before .before .before .pre .0, c .loop-test .left, c .before .loop .inv .high)
+skip-eight-fast-requires : tie.Need-skip-eight-fast-requires Inv-loop μ-loop
+skip-eight-fast-requires c κs = (c .before .before .before .pre .0, c .loop-test .left, c .before .loop .inv .high)
 
 returns-3 : tie.Need-returns-3 Inv-loop μ-loop
-returns-3 c = skipped-then _ _ _ _ (c .before .before .loop .inv) (c .skip-fast .ensures)
+returns-3 c = skipped-then _ _ _ _ (c .before .before .loop .inv) (c .skip-eight-fast .ensures)
 
 pub skip-caches-spec : {M : Type 1} → statement M
 skip-caches-spec =
@@ -82,5 +82,5 @@ skip-caches-spec =
     add-j
     loop-less
     loop-again
-    skip-fast-requires
+    skip-eight-fast-requires
     returns-3)

@@ -1,5 +1,5 @@
 -- `audit_empty_lists::skip_one_by_one` meets its contract: the bins passed are empty by their two words. Assumes nothing.
-use Prim.Native.Nat.{_-_}
+use Prim.Native.Nat.{_+_, _-_}
 use native.Mathlib.Omega.{arith}
 use Rattle.audit_empty_lists.specs.Skips.{Skipped}
 use Rattle.audit_empty_lists.specs.Runs.{skipped-none, skipped-bin}
@@ -8,16 +8,13 @@ use Rattle.audit_empty_lists.proofs.skip_one_by_one.Statement.{statemen
 use Rattle.audit_empty_lists.proofs.skip_one_by_one.Tie as tie
 
 abbrev Inv-loop : tie.InvT-loop
-Inv-loop r i j₀ j = Skipped r i j
+Inv-loop r i b₀ b = Skipped r (i + 73) (b + 73)
 
 abbrev μ-loop : tie.MeasureT-loop
-μ-loop r i j₀ j = 200 - j
+μ-loop r i b₀ b = 127 - b
 
 loop-holds : tie.Need-loop-holds Inv-loop μ-loop
-loop-holds c = skipped-none _ _ (c .before .pre .2)
-
-bin-of-list-requires : tie.Need-bin-of-list-requires Inv-loop μ-loop
-bin-of-list-requires c κs = search needs
+loop-holds c = skipped-none _ _ (omega (arith, c .before .pre .2))
 
 bin-first-requires : tie.Need-bin-first-requires Inv-loop μ-loop
 bin-first-requires c κs = search needs
@@ -43,18 +40,17 @@ shared-slice-read-if2 c = search needs
 returns-2 : tie.Need-returns-2 Inv-loop μ-loop
 returns-2 c = search needs
 
-add-j : tie.Need-add-j Inv-loop μ-loop
-add-j c = search needs
+add-b : tie.Need-add-b Inv-loop μ-loop
+add-b c = search needs
 
 loop-less : tie.Need-loop-less Inv-loop μ-loop
 loop-less c = search needs
 
 loop-again : tie.Need-loop-again Inv-loop μ-loop
 loop-again c =
-    let l = c .before .before .before .before .before .before .before .before .loop in
-    let p = c .before .before .before .before .before .before .before .before .before .before .pre in
-    skipped-bin _ _ _ _ _ _ (omega (arith, l .inv .low, p .1)) (c .before .before .before .before .before .before .before .loop-test .taken)
-    (c .before .before .before .before .before .before .bin-of-list .ensures) (c .before .before .before .before .before .bin-first .ensures) (c .before .before .bin-last .ensures) (l .inv) (c .before .before .before .if1 .left) (c .if2 .left)
+    let l = c .before .before .before .before .before .before .before .loop in
+    skipped-bin _ _ (l .b) _ _ (omega (arith, l .inv .low, c .before .before .before .before .before .before .before .before .before .pre .1)) (c .before .before .before .before .before .before .loop-test .taken) (c .before .before .before .before .before .bin-first .ensures) (c .before .before .bin-last .ensures) (l .inv)
+    (c .before .before .before .if1 .left) (c .if2 .left)
 
 returns-3 : tie.Need-returns-3 Inv-loop μ-loop
 returns-3 c = search needs
@@ -66,7 +62,6 @@ skip-one-by-one-spec =
     Inv-loop
     μ-loop
     loop-holds
-    bin-of-list-requires
     bin-first-requires
     mul-if1
     shared-slice-read-if1
@@ -75,7 +70,7 @@ skip-one-by-one-spec =
     mul-if2
     shared-slice-read-if2
     returns-2
-    add-j
+    add-b
     loop-less
     loop-again
     returns-3)

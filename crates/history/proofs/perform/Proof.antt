@@ -36,11 +36,11 @@ same-length-4 c = search needs
 returns-2 : tie.Need-returns-2
 returns-2 c = let s = c .before .before .before .before .before .before .before .before .before .before .before .before in c .before .before .before .before .release .ensures ∙ ap (λ (x : Call). callOf x (s .args .arena .now) (s .args .control .now)) (sym (c .before .before .before .before .before .before .before .before .c2 .given .1))
 
-enum-told : tie.Need-enum-told
-enum-told c = search needs
+enum-known-c-3 : tie.Need-enum-known-c-3
+enum-known-c-3 c = search needs
 
-settle-requires : tie.Need-settle-requires
-settle-requires c κs = search needs
+resize-requires : tie.Need-resize-requires
+resize-requires c κs = search needs
 
 same-length-5 : tie.Need-same-length-5
 same-length-5 c = search needs
@@ -49,7 +49,22 @@ same-length-6 : tie.Need-same-length-6
 same-length-6 c = search needs
 
 returns-3 : tie.Need-returns-3
-returns-3 c = let s = c .before .before .before .before .before .before .before .before .before .before .before in c .before .before .before .before .settle .ensures ∙ ap (λ (x : Call). callOf x (s .args .arena .now) (s .args .control .now)) (sym (c .before .before .before .before .before .before .before .enum-told .given .1))
+returns-3 c = let s = c .before .before .before .before .before .before .before .before .before .before .before .before in c .before .before .before .before .resize .ensures ∙ ap (λ (x : Call). callOf x (s .args .arena .now) (s .args .control .now)) (sym (c .before .before .before .before .before .before .before .before .c3 .given .1))
+
+enum-told : tie.Need-enum-told
+enum-told c = search needs
+
+settle-requires : tie.Need-settle-requires
+settle-requires c κs = search needs
+
+same-length-7 : tie.Need-same-length-7
+same-length-7 c = search needs
+
+same-length-8 : tie.Need-same-length-8
+same-length-8 c = search needs
+
+returns-4 : tie.Need-returns-4
+returns-4 c = let s = c .before .before .before .before .before .before .before .before .before .before .before in c .before .before .before .before .settle .ensures ∙ ap (λ (x : Call). callOf x (s .args .arena .now) (s .args .control .now)) (sym (c .before .before .before .before .before .before .before .enum-told .given .1))
 
 pub perform-spec : {M : Type 1} → statement M
 perform-spec =
@@ -65,8 +80,13 @@ perform-spec =
     same-length-3
     same-length-4
     returns-2
-    enum-told
-    settle-requires
+    enum-known-c-3
+    resize-requires
     same-length-5
     same-length-6
-    returns-3)
+    returns-3
+    enum-told
+    settle-requires
+    same-length-7
+    same-length-8
+    returns-4)

@@ -9,7 +9,8 @@ use lib.ListN.{length}
 use Rattle.le.specs.Arena.{arenaWords}
 use Rattle.release_join.specs.Reads.{arena-words-within, size-inside}
 use Rattle.primitives.specs.Chunks.{Inside}
-use Rattle.release_join.specs.Parts.{Nearby, nearby, next-top-gave, next-alone-gave, next-taking, next-taken-gave}
+use Rattle.release_join.specs.Ahead.{Nearby}
+use Rattle.release_join.specs.Parts.{nearby, next-top-gave, next-alone-gave, next-taking, next-taken-gave}
 use Rattle.release_join.proofs.join_next.Statement.{statement}
 use Rattle.release_join.proofs.join_next.Tie as tie
 

@@ -5,7 +5,8 @@ use mathlib.Core.Path.{refl}
 use lib.ListN.{length}
 use Rattle.le.specs.Arena.{arenaWords}
 use Rattle.release_join.specs.Reads.{arena-words-within}
-use Rattle.release_join.specs.Parts.{Nearby, nearby, down-top-gave, down-has, down-bin-gave}
+use Rattle.release_join.specs.Ahead.{Nearby}
+use Rattle.release_join.specs.Parts.{nearby, down-top-gave, down-has, down-bin-gave}
 use Rattle.release_join.proofs.put_down.Statement.{statement}
 use Rattle.release_join.proofs.put_down.Tie as tie
 

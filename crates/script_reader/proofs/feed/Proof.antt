@@ -1,4 +1,4 @@
--- `script_reader::feed` meets its contract: a byte is kept behind the others, or 10 are kept already. Assumes nothing.
+-- `script_reader::feed` meets its contract: a byte is kept behind the others, or 18 are kept already. Assumes nothing.
 use borrow.Author.Needs.{needs}
 use Rattle.script_reader.proofs.Reading.{kept-more, kept-full}
 use Rattle.script_reader.proofs.feed.Statement.{statement}

@@ -2,7 +2,7 @@
 use mathlib.Core.Path.{sym, _∙_}
 use native.Mathlib.Omega.{arith}
 use borrow.Author.Needs.{needs}
-use Rattle.script_reader.proofs.Reading.{line-none, line-one, line-other, line-numbered}
+use Rattle.script_reader.proofs.Reading.{line-none, line-one, line-other, line-spaced}
 use Rattle.script_reader.proofs.line_of.Statement.{statement}
 use Rattle.script_reader.proofs.line_of.Tie as tie
 
@@ -24,26 +24,23 @@ shared-slice-read-if3 c = search needs
 returns-3 : tie.Need-returns-3
 returns-3 c = sym (line-other _ (omega (arith, c .before .before .before .if1 .left, c .before .before .if2 .left)) (c .if3 .taken))
 
-shared-slice-read-line-numbered : tie.Need-shared-slice-read-line-numbered
-shared-slice-read-line-numbered c = search needs
+shared-slice-read-line-spaced : tie.Need-shared-slice-read-line-spaced
+shared-slice-read-line-spaced c = search needs
 
-sub-number-of : tie.Need-sub-number-of
-sub-number-of c = search needs
+sub-line-spaced : tie.Need-sub-line-spaced
+sub-line-spaced c = search needs
 
-part-number-of-start : tie.Need-part-number-of-start
-part-number-of-start c = search needs
+part-line-spaced-start : tie.Need-part-line-spaced-start
+part-line-spaced-start c = search needs
 
-part-number-of-end : tie.Need-part-number-of-end
-part-number-of-end c = search needs
+part-line-spaced-end : tie.Need-part-line-spaced-end
+part-line-spaced-end c = search needs
 
-number-of-requires : tie.Need-number-of-requires
-number-of-requires c κs = search needs
-
-line-numbered-requires : tie.Need-line-numbered-requires
-line-numbered-requires c κs = search needs
+line-spaced-requires : tie.Need-line-spaced-requires
+line-spaced-requires c κs = search needs
 
 returns-4 : tie.Need-returns-4
-returns-4 c = c .line-numbered .ensures ∙ (rw (c .before .number-of .ensures) (sym (line-numbered _ (omega (arith, c .before .before .before .before .before .before .before .if1 .left, c .before .before .before .before .before .before .if2 .left)) (c .before .before .before .before .if3 .left))))
+returns-4 c = c .line-spaced .ensures ∙ sym (line-spaced _ (omega (arith, c .before .before .before .before .before .before .if1 .left, c .before .before .before .before .before .if2 .left)) (c .before .before .before .if3 .left))
 
 pub line-of-spec : {M : Type 1} → statement M
 line-of-spec =
@@ -55,10 +52,9 @@ line-of-spec =
     returns-2
     shared-slice-read-if3
     returns-3
-    shared-slice-read-line-numbered
-    sub-number-of
-    part-number-of-start
-    part-number-of-end
-    number-of-requires
-    line-numbered-requires
+    shared-slice-read-line-spaced
+    sub-line-spaced
+    part-line-spaced-start
+    part-line-spaced-end
+    line-spaced-requires
     returns-4)

@@ -7,7 +7,8 @@ use native.Mathlib.Omega.{arith}
 use lib.ListN.{length, drop, getD}
 use borrow.Author.Needs.{needs}
 use Rattle.script.specs.Grammar.{digitsFrom}
-use Rattle.script_reader.proofs.Reading.{digit-low, digits-turn, digits-stop, digits-end, number-good, number-short, number-long}
+use Rattle.script_reader.proofs.Reading.{digit-low, digits-turn, digits-stop, digits-end, number-good, number-short}
+use Rattle.script_reader.specs.GrammarLaws.{number-long}
 use Rattle.script_reader.proofs.number_of.Statement.{statement}
 use Rattle.script_reader.proofs.number_of.Tie as tie
 

@@ -54,11 +54,17 @@ same-length-6 c = search needs
 returns-3 : tie.Need-returns-3
 returns-3 c = rw (c .before .before .before .before .before .before .before .before .line2 .given .1) (c .before .before .before .before .release .ensures)
 
-enum-told-2 : tie.Need-enum-told-2
-enum-told-2 c = search needs
+enum-known-line-3 : tie.Need-enum-known-line-3
+enum-known-line-3 c = search needs
 
-settle-requires : tie.Need-settle-requires
-settle-requires c κs = search needs
+cast-resize : tie.Need-cast-resize
+cast-resize c = search needs
+
+cast-resize-2 : tie.Need-cast-resize-2
+cast-resize-2 c = search needs
+
+resize-requires : tie.Need-resize-requires
+resize-requires c κs = search needs
 
 same-length-7 : tie.Need-same-length-7
 same-length-7 c = search needs
@@ -67,13 +73,28 @@ same-length-8 : tie.Need-same-length-8
 same-length-8 c = search needs
 
 returns-4 : tie.Need-returns-4
-returns-4 c = rw (c .before .before .before .before .before .before .before .enum-told2 .given .1) (c .before .before .before .before .settle .ensures)
+returns-4 c = rw (c .before .before .before .before .before .before .before .before .line3 .given .1) (c .before .before .before .before .resize .ensures)
+
+enum-told-2 : tie.Need-enum-told-2
+enum-told-2 c = search needs
+
+settle-requires : tie.Need-settle-requires
+settle-requires c κs = search needs
+
+same-length-9 : tie.Need-same-length-9
+same-length-9 c = search needs
+
+same-length-10 : tie.Need-same-length-10
+same-length-10 c = search needs
+
+returns-5 : tie.Need-returns-5
+returns-5 c = rw (c .before .before .before .before .before .before .before .enum-told2 .given .1) (c .before .before .before .before .settle .ensures)
 
 enum-told-3 : tie.Need-enum-told-3
 enum-told-3 c = search needs
 
-returns-5 : tie.Need-returns-5
-returns-5 c = rw (c .enum-told3 .given .1)
+returns-6 : tie.Need-returns-6
+returns-6 c = rw (c .enum-told3 .given .1)
 
 pub call-spec : {M : Type 1} → statement M
 call-spec =
@@ -96,10 +117,17 @@ call-spec =
     same-length-5
     same-length-6
     returns-3
-    enum-told-2
-    settle-requires
+    enum-known-line-3
+    cast-resize
+    cast-resize-2
+    resize-requires
     same-length-7
     same-length-8
     returns-4
+    enum-told-2
+    settle-requires
+    same-length-9
+    same-length-10
+    returns-5
     enum-told-3
-    returns-5)
+    returns-6)

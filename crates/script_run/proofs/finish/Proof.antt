@@ -3,6 +3,7 @@ use mathlib.Core.Path.{_≡_}
 use native.Mathlib.Omega.{arith}
 use lib.ListN.{length, length-take}
 use borrow.Author.Needs.{needs}
+use Rattle.script.specs.Grammar.{keptBytes}
 use Rattle.script_run.proofs.Steps.{end-ended, end-none, end-line}
 use Rattle.script_run.proofs.finish.Statement.{statement}
 use Rattle.script_run.proofs.finish.Tie as tie
@@ -28,7 +29,7 @@ same-length-3 c = search needs
 returns-3 : tie.Need-returns-3
 returns-3 c =
     let l = c .before .before .before .before .before .before .before .before .before .before .before .before .before .before .before .before .args .log .text in
-    let e : length (l .text) ≡ 10 = search needs in
+    let e : length (l .text) ≡ keptBytes = search needs in
     let n : (l .len ≡ 0 → ⊥) = c .before .before .before .before .before .before .before .before .before .before .if2 .left in
     (end-line _ _ _ _ _ _ (c .before .before .before .before .before .before .before .before .before .before .before .if1 .left) (simp length-take (omega arith)) (c .before .before .before .before .before .before .run-line .ensures .0), c .before .before .before .before .before .before .run-line .ensures .1)
 

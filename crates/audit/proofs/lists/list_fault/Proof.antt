@@ -32,7 +32,7 @@ lists-holds : tie.Need-lists-holds Inv-loop μ-loop Inv-lists μ-lists
 lists-holds c = let s = c .before .before .before in (refl, refl, omega arith, lists-enter (arenaWords (s .args .a .now)) (s .args .r .now) (s .args .m .now) (s .pre .2))
 
 skip-requires : tie.Need-skip-requires Inv-loop μ-loop Inv-lists μ-lists
-skip-requires c κs = (c .before .before .before .before .before .pre .1, c .before .lists .inv .2)
+skip-requires c κs = (c .before .before .before .before .pre .1, c .lists .inv .2)
 
 kind-at-requires : tie.Need-kind-at-requires Inv-loop μ-loop Inv-lists μ-lists
 kind-at-requires c κs = search needs
@@ -48,12 +48,12 @@ owned-by-requires c κs =
 head-requires : tie.Need-head-requires Inv-loop μ-loop Inv-lists μ-lists
 head-requires c κs =
     let lt : c .before .before .before .before .skip .result < 200 = omega (arith, c .before .before .before .before .skip .ensures .high, c .before .before .before .if1 .left) in
-    (c .before .before .before .before .before .before .before .before .before .before .pre .1, kind-words _ _ (c .before .before .kind-at .ensures) lt .0)
+    (c .before .before .before .before .before .before .before .before .before .pre .1, kind-words _ _ (c .before .before .kind-at .ensures) lt .0)
 
 loop-holds : tie.Need-loop-holds Inv-loop μ-loop Inv-lists μ-lists
 loop-holds c =
-    let s = c .before .before .before .before .before .before .before .before .before .before .before in
-    let o = c .before .before .before .before .before .before .before .lists in
+    let s = c .before .before .before .before .before .before .before .before .before .before in
+    let o = c .before .before .before .before .before .before .lists in
     let k = c .before .before .before .before .before .skip .ensures in
     let w = arenaWords (s .args .a .now) in
     let lt : c .before .before .before .before .before .skip .result < 200 = omega (arith, k .high, c .before .before .before .before .if1 .left) in
@@ -64,7 +64,7 @@ unmet-requires c κs = search needs
 
 size-at-requires : tie.Need-size-at-requires Inv-loop μ-loop Inv-lists μ-lists
 size-at-requires c κs =
-    let s = c .before .before .before .before .before .before .before .before .before .before .before .before .before .before .before .before .before in
+    let s = c .before .before .before .before .before .before .before .before .before .before .before .before .before .before .before .before in
     let l = c .before .before .before .before .before .loop in
     let w = arenaWords (s .args .a .now) in
     let len = arena-length (s .args .a .now) (s .pre .0 .arena) in
@@ -74,7 +74,7 @@ size-at-requires c κs =
 
 may-stand-requires : tie.Need-may-stand-requires Inv-loop μ-loop Inv-lists μ-lists
 may-stand-requires c κs =
-    let s = c .before .before .before .before .before .before .before .before .before .before .before .before .before .before .before .before .before .before in
+    let s = c .before .before .before .before .before .before .before .before .before .before .before .before .before .before .before .before .before in
     let l = c .before .before .before .before .before .before .loop in
     let w = arenaWords (s .args .a .now) in
     let len = arena-length (s .args .a .now) (s .pre .0 .arena) in
@@ -89,14 +89,14 @@ slice-write-m c =
 
 add-n : tie.Need-add-n Inv-loop μ-loop Inv-lists μ-lists
 add-n c =
-    let s = c .before .before .before .before .before .before .before .before .before .before .before .before .before .before .before .before .before .before .before .before .before in
+    let s = c .before .before .before .before .before .before .before .before .before .before .before .before .before .before .before .before .before .before .before .before in
     let l = c .before .before .before .before .before .before .before .before .before .loop in
     let len = arena-length (s .args .a .now) (s .pre .0 .arena) in
     omega (arith, l .inv .3 .few, len, s .pre .0 .arena .small)
 
 fwd-at-requires : tie.Need-fwd-at-requires Inv-loop μ-loop Inv-lists μ-lists
 fwd-at-requires c κs =
-    let s = c .before .before .before .before .before .before .before .before .before .before .before .before .before .before .before .before .before .before .before .before .before in
+    let s = c .before .before .before .before .before .before .before .before .before .before .before .before .before .before .before .before .before .before .before .before in
     let l = c .before .before .before .before .before .before .before .before .before .loop in
     let w = arenaWords (s .args .a .now) in
     let len = arena-length (s .args .a .now) (s .pre .0 .arena) in
@@ -111,7 +111,7 @@ loop-less c =
 
 loop-again : tie.Need-loop-again Inv-loop μ-loop Inv-lists μ-lists
 loop-again c =
-    let s = c .before .before .before .before .before .before .before .before .before .before .before .before .before .before .before .before .before .before .before .before .before .before in
+    let s = c .before .before .before .before .before .before .before .before .before .before .before .before .before .before .before .before .before .before .before .before .before in
     let l = c .before .before .before .before .before .before .before .before .before .before .loop in
     let w = arenaWords (s .args .a .now) in (
       length-set {A = ℕ} (l .m) (l .c .0 / 16) _ ∙ l .inv .0,
@@ -122,7 +122,7 @@ loop-again c =
     )
 
 may-end-requires : tie.Need-may-end-requires Inv-loop μ-loop Inv-lists μ-lists
-may-end-requires c κs = (c .before .before .before .before .before .before .before .before .before .before .before .before .before .before .pre .1, kind-words _ _ (c .before .before .before .before .before .before .kind-at .ensures) (c .before .before .loop .inv .2) .1)
+may-end-requires c κs = (c .before .before .before .before .before .before .before .before .before .before .before .before .before .pre .1, kind-words _ _ (c .before .before .before .before .before .before .kind-at .ensures) (c .before .before .loop .inv .2) .1)
 
 add-i : tie.Need-add-i Inv-loop μ-loop Inv-lists μ-lists
 add-i c = search needs
@@ -132,57 +132,48 @@ lists-less c = omega (arith, c .before .before .before .before .before .before .
 
 lists-again : tie.Need-lists-again Inv-loop μ-loop Inv-lists μ-lists
 lists-again c =
-    let s = c .before .before .before .before .before .before .before .before .before .before .before .before .before .before .before .before in
+    let s = c .before .before .before .before .before .before .before .before .before .before .before .before .before .before .before in
     let l = c .before .before .before .before .loop in
     let w = arenaWords (s .args .a .now) in
-    let o = c .before .before .before .before .before .before .before .before .before .before .before .before .lists in
+    let o = c .before .before .before .before .before .before .before .before .before .before .before .lists in
     (l .inv .0 ∙ o .inv .0, l .inv .1, omega (arith, l .inv .2), list-leave w (s .args .r .now) _ _ _ _ _ _ _ (l .inv .3) _ (c .before .before .if2 .left) (c .before .may-end .ensures) (not-false _ (c .if5 .left)))
 
 same-length : tie.Need-same-length Inv-loop μ-loop Inv-lists μ-lists
-same-length c = c .before .lists .inv .0
+same-length c = c .before .before .lists .inv .0
 
 returns : tie.Need-returns Inv-loop μ-loop Inv-lists μ-lists
 returns c =
-    let s = c .before .before .before .before .before in
-    let o = c .before .lists in
-    rw (o .inv .1) (lists-done (arenaWords (s .args .a .now)) (s .args .r .now) (o .m) (o .i) (c .lists-test .left) (o .inv .2) (o .inv .3))
-
-same-length-2 : tie.Need-same-length-2 Inv-loop μ-loop Inv-lists μ-lists
-same-length-2 c = c .before .before .before .lists .inv .0
-
-returns-2 : tie.Need-returns-2 Inv-loop μ-loop Inv-lists μ-lists
-returns-2 c =
-    let s = c .before .before .before .before .before .before .before in
-    let o = c .before .before .before .lists in
+    let s = c .before .before .before .before .before .before in
+    let o = c .before .before .lists in
     let w = arenaWords (s .args .a .now) in
     rw (o .inv .1) (lists-done w (s .args .r .now) (o .m) _ (omega (arith, c .if1 .taken)) (c .before .skip .ensures .high) (list-skip w (s .args .r .now) (o .m) (o .i) _ (c .before .skip .ensures) (o .inv .3)))
 
-same-length-3 : tie.Need-same-length-3 Inv-loop μ-loop Inv-lists μ-lists
-same-length-3 c = c .before .before .before .before .before .loop .inv .0 ∙ c .before .before .before .before .before .before .before .before .before .before .before .before .before .lists .inv .0
+same-length-2 : tie.Need-same-length-2 Inv-loop μ-loop Inv-lists μ-lists
+same-length-2 c = c .before .before .before .before .before .loop .inv .0 ∙ c .before .before .before .before .before .before .before .before .before .before .before .before .lists .inv .0
 
-returns-3 : tie.Need-returns-3 Inv-loop μ-loop Inv-lists μ-lists
-returns-3 c =
-    let s = c .before .before .before .before .before .before .before .before .before .before .before .before .before .before .before .before .before in
+returns-2 : tie.Need-returns-2 Inv-loop μ-loop Inv-lists μ-lists
+returns-2 c =
+    let s = c .before .before .before .before .before .before .before .before .before .before .before .before .before .before .before .before in
     let l = c .before .before .before .before .before .loop in
     let w = arenaWords (s .args .a .now) in
     list-met w (s .args .r .now) _ _ _ _ _ _ _ (l .inv .3) _ _ (c .before .before .before .if2 .taken) (c .before .unmet .ensures) (not-true _ (c .if3 .taken))
 
-same-length-4 : tie.Need-same-length-4 Inv-loop μ-loop Inv-lists μ-lists
-same-length-4 c = c .before .before .before .before .before .before .before .before .loop .inv .0 ∙ c .before .before .before .before .before .before .before .before .before .before .before .before .before .before .before .before .lists .inv .0
+same-length-3 : tie.Need-same-length-3 Inv-loop μ-loop Inv-lists μ-lists
+same-length-3 c = c .before .before .before .before .before .before .before .before .loop .inv .0 ∙ c .before .before .before .before .before .before .before .before .before .before .before .before .before .before .before .lists .inv .0
 
-returns-4 : tie.Need-returns-4 Inv-loop μ-loop Inv-lists μ-lists
-returns-4 c =
-    let s = c .before .before .before .before .before .before .before .before .before .before .before .before .before .before .before .before .before .before .before .before in
+returns-3 : tie.Need-returns-3 Inv-loop μ-loop Inv-lists μ-lists
+returns-3 c =
+    let s = c .before .before .before .before .before .before .before .before .before .before .before .before .before .before .before .before .before .before .before in
     let l = c .before .before .before .before .before .before .before .before .loop in
     let w = arenaWords (s .args .a .now) in
     list-misplaced w (s .args .r .now) _ _ _ _ _ _ _ (l .inv .3) _ _ _ (c .before .before .before .before .before .before .if2 .taken) (c .before .before .before .before .unmet .ensures) (not-false _ (c .before .before .before .if3 .left)) (c .before .may-stand .ensures) (not-true _ (c .if4 .taken))
 
-same-length-5 : tie.Need-same-length-5 Inv-loop μ-loop Inv-lists μ-lists
-same-length-5 c = c .before .before .before .before .loop .inv .0 ∙ c .before .before .before .before .before .before .before .before .before .before .before .before .lists .inv .0
+same-length-4 : tie.Need-same-length-4 Inv-loop μ-loop Inv-lists μ-lists
+same-length-4 c = c .before .before .before .before .loop .inv .0 ∙ c .before .before .before .before .before .before .before .before .before .before .before .lists .inv .0
 
-returns-5 : tie.Need-returns-5 Inv-loop μ-loop Inv-lists μ-lists
-returns-5 c =
-    let s = c .before .before .before .before .before .before .before .before .before .before .before .before .before .before .before .before in
+returns-4 : tie.Need-returns-4 Inv-loop μ-loop Inv-lists μ-lists
+returns-4 c =
+    let s = c .before .before .before .before .before .before .before .before .before .before .before .before .before .before .before in
     let l = c .before .before .before .before .loop in
     let w = arenaWords (s .args .a .now) in
     list-end-bad w (s .args .r .now) _ _ _ _ _ _ _ (l .inv .3) _ _ (c .before .before .if2 .left) (c .before .may-end .ensures) (not-true _ (c .if5 .taken))
@@ -221,6 +212,4 @@ list-fault-spec =
     same-length-3
     returns-3
     same-length-4
-    returns-4
-    same-length-5
-    returns-5)
+    returns-4)

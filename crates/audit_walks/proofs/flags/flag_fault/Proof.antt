@@ -10,7 +10,7 @@ use Rattle.le.specs.Arena.{arenaWords}
 use Rattle.machine.specs.View.{sizeAt}
 use Rattle.audit_walks.specs.Marks.{binnedBy, binAt}
 use Rattle.audit_walks.specs.TileTurn.{arena-length}
-use Rattle.audit_walks.specs.FlagTurn.{FlagIn, flags-enter, flags-low, flag-seen, flag-bad, flag-turn, flag-size, flag-last}
+use Rattle.audit_walks.specs.FlagTurn.{FlagIn, flags-enter, flags-low, low-here, low-top, flag-seen, flag-bad, flag-turn, flag-size, flag-last}
 use Rattle.audit_walks.proofs.flags.flag_fault.Statement.{statement}
 use Rattle.audit_walks.proofs.flags.flag_fault.Tie as tie
 
@@ -39,8 +39,8 @@ shared-slice-read-v c =
     let low = flags-low (arenaWords (s .args .a .now)) (s .args .m .now) _ _ _ _ (l .inv) in
     omega (arith, low .0, low .1, len, s .pre .0 .room)
 
-low-requires : tie.Need-low-requires Inv-loop μ-loop
-low-requires c κs = search needs
+p-of-requires : tie.Need-p-of-requires Inv-loop μ-loop
+p-of-requires c κs = search needs
 
 note-at-requires : tie.Need-note-at-requires Inv-loop μ-loop
 note-at-requires c κs =
@@ -66,7 +66,7 @@ returns c =
     let s = c .before .before .before .before .before .before .before .before .before .before in
     let l = c .before .before .before .before .before .before .before .loop in
     let w = arenaWords (s .args .a .now) in
-    flag-bad w (s .args .m .now) _ _ _ _ (l .inv) (c .before .before .before .before .before .before .loop-test .taken) _ (flag-seen w (l .o) _ _ _ (binAt (s .args .m .now) (l .o)) (binnedBy (l .u)) (l .s) _ (c .before .before .before .before .before .size-word-at .ensures) (c .before .before .before .low .ensures) (c .before .before .note-at .ensures) (c .before .flag-ok .ensures)) (not-true _ (c .if1 .taken))
+    flag-bad w (s .args .m .now) _ _ _ _ (l .inv) (c .before .before .before .before .before .before .loop-test .taken) _ (flag-seen w (l .o) _ _ _ (binAt (s .args .m .now) (l .o)) (binnedBy (l .u)) (l .s) _ (low-here w (s .args .m .now) _ _ _ _ (l .inv)) (c .before .before .before .before .before .size-word-at .ensures) (c .before .before .before .p-of .ensures) (c .before .before .note-at .ensures) (c .before .flag-ok .ensures)) (not-true _ (c .if1 .taken))
 
 size-requires : tie.Need-size-requires Inv-loop μ-loop
 size-requires c κs = search needs
@@ -97,7 +97,7 @@ loop-again c =
     let l = c .before .before .before .before .before .before .before .before .loop in
     let w = arenaWords (s .args .a .now) in
     let e : c .size .result ≡ sizeAt w (l .o) = c .size .ensures ∙ ap (λ (x : ℕ). x / 16 * 16) (c .before .before .before .before .before .before .size-word-at .ensures) in
-    rw e (flag-turn w (s .args .m .now) _ _ _ _ (l .inv) (c .before .before .before .before .before .before .before .loop-test .taken) _ (flag-seen w (l .o) _ _ _ (binAt (s .args .m .now) (l .o)) (binnedBy (l .u)) (l .s) _ (c .before .before .before .before .before .before .size-word-at .ensures) (c .before .before .before .before .low .ensures) (c .before .before .before .note-at .ensures) (c .before .before .flag-ok .ensures)) (not-false _ (c .before .if1 .left)))
+    rw e (flag-turn w (s .args .m .now) _ _ _ _ (l .inv) (c .before .before .before .before .before .before .before .loop-test .taken) _ (flag-seen w (l .o) _ _ _ (binAt (s .args .m .now) (l .o)) (binnedBy (l .u)) (l .s) _ (low-here w (s .args .m .now) _ _ _ _ (l .inv)) (c .before .before .before .before .before .before .size-word-at .ensures) (c .before .before .before .before .p-of .ensures) (c .before .before .before .note-at .ensures) (c .before .before .flag-ok .ensures)) (not-false _ (c .before .if1 .left)))
 
 size-word-at-requires-2 : tie.Need-size-word-at-requires-2 Inv-loop μ-loop
 size-word-at-requires-2 c κs =
@@ -107,8 +107,8 @@ size-word-at-requires-2 c κs =
     let low = flags-low (arenaWords (s .args .a .now)) (s .args .m .now) _ _ _ _ (l .inv) in
     (omega (arith, l .inv .even, low .0, c .loop-test .left), omega (arith, low .0, low .1, len))
 
-low-requires-2 : tie.Need-low-requires-2 Inv-loop μ-loop
-low-requires-2 c κs = search needs
+p-of-requires-2 : tie.Need-p-of-requires-2 Inv-loop μ-loop
+p-of-requires-2 c κs = search needs
 
 note-at-requires-2 : tie.Need-note-at-requires-2 Inv-loop μ-loop
 note-at-requires-2 c κs =
@@ -134,14 +134,14 @@ returns-2 c =
     let s = c .before .before .before .before .before .before .before .before .before in
     let l = c .before .before .before .before .before .before .loop in
     let w = arenaWords (s .args .a .now) in
-    flag-last w (s .args .m .now) _ _ _ _ (s .pre .1) (l .inv) (c .before .before .before .before .before .loop-test .left) _ (flag-seen w (s .args .top .0) _ _ _ 1 (binnedBy (l .u)) (l .s) _ (c .before .before .before .before .size-word-at2 .ensures) (c .before .before .before .low2 .ensures) (c .before .before .note-at2 .ensures) (c .before .flag-ok2 .ensures)) false (not-true _ (c .if2 .taken))
+    flag-last w (s .args .m .now) _ _ _ _ (s .pre .1) (l .inv) (c .before .before .before .before .before .loop-test .left) _ (flag-seen w (s .args .top .0) _ _ _ 1 (binnedBy (l .u)) (l .s) _ (low-top w _ (s .pre .1)) (c .before .before .before .before .size-word-at2 .ensures) (c .before .before .before .p-of2 .ensures) (c .before .before .note-at2 .ensures) (c .before .flag-ok2 .ensures)) false (not-true _ (c .if2 .taken))
 
 returns-3 : tie.Need-returns-3 Inv-loop μ-loop
 returns-3 c =
     let s = c .before .before .before .before .before .before .before .before .before in
     let l = c .before .before .before .before .before .before .loop in
     let w = arenaWords (s .args .a .now) in
-    flag-last w (s .args .m .now) _ _ _ _ (s .pre .1) (l .inv) (c .before .before .before .before .before .loop-test .left) _ (flag-seen w (s .args .top .0) _ _ _ 1 (binnedBy (l .u)) (l .s) _ (c .before .before .before .before .size-word-at2 .ensures) (c .before .before .before .low2 .ensures) (c .before .before .note-at2 .ensures) (c .before .flag-ok2 .ensures)) true (not-false _ (c .if2 .left))
+    flag-last w (s .args .m .now) _ _ _ _ (s .pre .1) (l .inv) (c .before .before .before .before .before .loop-test .left) _ (flag-seen w (s .args .top .0) _ _ _ 1 (binnedBy (l .u)) (l .s) _ (low-top w _ (s .pre .1)) (c .before .before .before .before .size-word-at2 .ensures) (c .before .before .before .p-of2 .ensures) (c .before .before .note-at2 .ensures) (c .before .flag-ok2 .ensures)) true (not-false _ (c .if2 .left))
 
 pub flag-fault-spec : {M : Type 1} → statement M
 flag-fault-spec =
@@ -152,7 +152,7 @@ flag-fault-spec =
     loop-holds
     size-word-at-requires
     shared-slice-read-v
-    low-requires
+    p-of-requires
     note-at-requires
     flag-ok-requires
     cast-t21
@@ -162,7 +162,7 @@ flag-fault-spec =
     loop-less
     loop-again
     size-word-at-requires-2
-    low-requires-2
+    p-of-requires-2
     note-at-requires-2
     flag-ok-requires-2
     cast-at

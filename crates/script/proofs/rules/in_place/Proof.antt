@@ -19,6 +19,9 @@ enum-told-3 c = search needs
 enum-told-4 : tie.Need-enum-told-4
 enum-told-4 c = search needs
 
+enum-told-5 : tie.Need-enum-told-5
+enum-told-5 c = search needs
+
 returns : tie.Need-returns
 returns c = rw (c .before .before .line .given .1, eq-eqb _ _ (c .if1 .taken))
 
@@ -35,7 +38,10 @@ returns-5 : tie.Need-returns-5
 returns-5 c = rw (c .enum-told3 .given .1)
 
 returns-6 : tie.Need-returns-6
-returns-6 c = search needs
+returns-6 c = rw (c .enum-told4 .given .1)
+
+returns-7 : tie.Need-returns-7
+returns-7 c = search needs
 
 pub in-place-spec : {M : Type 1} → statement M
 in-place-spec =
@@ -46,9 +52,11 @@ in-place-spec =
     enum-told-2
     enum-told-3
     enum-told-4
+    enum-told-5
     returns
     returns-2
     returns-3
     returns-4
     returns-5
-    returns-6)
+    returns-6
+    returns-7)

@@ -1,0 +1,36 @@
+/*
+ * The words a trace is written in: calls on the one heap in hand with the
+ * answer expected of each, after which the heap must be sound, and what must
+ * then stand in the record and in the arena.
+ */
+#ifndef TRACES_H
+#define TRACES_H
+
+#include <stdint.h>
+
+#include "check.h"
+
+#define NONE UINT32_MAX
+
+extern struct lent heap;
+
+/* Lends and opens an arena of that length, filled with 0xa5; gives it back. */
+void start(uint32_t length);
+void stop(void);
+
+void answers(const char *call, struct second_answer a, uint32_t no,
+             uint32_t mem, uint32_t usable);
+void grants(uint64_t n, uint32_t mem, uint32_t usable);
+void refuses(uint64_t n, uint32_t no);
+void releases(uint64_t mem);
+void resizes(uint64_t mem, uint64_t n, uint32_t to, uint32_t usable);
+void refuses_resize(uint64_t mem, uint64_t n, uint32_t no);
+void settles(void);
+
+void word_is(const char *name, unsigned word, uint32_t expected);
+void cache_is(unsigned k, uint32_t head, uint32_t count);
+void fast_is(unsigned k, uint32_t head);
+void bin_is(unsigned bin, uint32_t first, uint32_t last);
+void eight_is(uint32_t at, uint64_t expected);
+
+#endif
