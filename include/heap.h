@@ -100,8 +100,9 @@
  * resize made again may succeed, by what was joined behind the block.
  *
  * A closed record says: length 0, every count 0, every other word all ones. On
- * an arena of an allowed length every later call but open and audit then
- * answers 3.
+ * an arena of an allowed length every later grant, release, resize and settle
+ * then answers 3, but for a grant or a resize of more than 262,144 bytes, which
+ * answers 2, as on every heap; audit names the record.
  *
  *
  * THE RECORD
@@ -115,12 +116,13 @@
  *
  * SOUND AND NOT SOUND
  *
- * Every call but open first checks the whole heap and refuses it, before the
- * first write, if it is not sound; so a stray write is found by the next call
- * and makes no further harm. A heap that is not sound stays so until it is
- * opened again. A heap that was opened, and whose holders write in their
- * usable bytes only, is always sound. There is one limit: an overrun or stray
- * write that happens to leave a sound heap cannot be told from a sound heap.
+ * Every call but open, if it is not refused with 1 or 2, first checks the whole
+ * heap and refuses it, before the first write, if it is not sound; so a stray
+ * write is found by the next such call and makes no further harm. A heap that
+ * is not sound stays so until it is opened again. A heap that was opened, and
+ * whose holders write in their usable bytes only, is always sound. There is one
+ * limit: an overrun or stray write that happens to leave a sound heap cannot be
+ * told from a sound heap.
  *
  *
  * COST

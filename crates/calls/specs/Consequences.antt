@@ -4,14 +4,16 @@ use mathlib.Core.Path.{_≡_, refl, sym, ap, _∙_, subst}
 use mathlib.Core.List.{List, [], _∷_}
 use mathlib.Core.Bool.{Bool, true, false}
 use mathlib.Core.Logic.{inl, inr, ⊎-elim}
-use Prim.Native.Nat.{ℕ, _+_, _-_, _≤_, _<_}
+use Prim.Native.Nat.{ℕ, _+_, _-_, _*_, _≤_, _<_}
 use native.Mathlib.Omega.{arith}
 use lib.Dec.{eqb}
-use lib.ListN.{length}
-use borrow.Author.Tests.{le-ltb, lt-ltb}
+use lib.ListN.{length, getD}
+use borrow.Author.Tests.{ne-eqb, le-ltb, lt-ltb}
+use Rattle.le.specs.Number.{number, numberFrom, words, digits, bytes}
 use Rattle.le.specs.Arena.{arenaWords}
 use Rattle.le.specs.ArenaLaws.{length-arenaWords}
 use Rattle.sizes.specs.Limits.{mostRequest, recordBytes, unsorted}
+use Rattle.sizes.specs.Layout.{lengthWord}
 use Rattle.sizes.specs.Sizes.{need, usable}
 use Rattle.sizes.specs.SizesLaws.{NeedBounds, need-bounds}
 use Rattle.machine.specs.Lists.{cnt}
@@ -19,8 +21,8 @@ use Rattle.machine.specs.Heap.{Heap, stack, bin, opened, starts, sizeOf, live?}
 use Rattle.machine.specs.Writes.{size, Ran, does, heapOf, writes}
 use Rattle.machine.specs.Release.{release, settle}
 use Rattle.machine.specs.Grant.{grant}
-use Rattle.machine.specs.Audit.{auditOf}
-use Rattle.machine.specs.Calls.{After, after, shape?, arenaAllowed?, wordsOf, heapIn, openCall, grantCall, releaseCall, settleCall, auditCall}
+use Rattle.machine.specs.Audit.{sound?, first, recordFault, auditOf}
+use Rattle.machine.specs.Calls.{After, after, shape?, arenaAllowed?, wordsOf, heapIn, closedRecord, openCall, grantCall, releaseCall, settleCall, auditCall}
 use Rattle.machine.specs.declared.{Got.Got, Got.the-variants.Nothing}
 use Rattle.machine.specs.declared.Refusal.{Refusal}
 use Rattle.machine.specs.declared.Refusal.the-variants as R
@@ -29,8 +31,9 @@ use Rattle.machine.specs.declared.Answer.the-variants.{Done, Granted, Refused}
 use Rattle.machine.specs.declared.Audited.{Audited}
 use Rattle.machine.specs.declared.Audited.the-variants as A
 use Rattle.sound.specs.Relation.{Loose, Good, Sound}
+use Rattle.sound.specs.Tiles.{start}
 use Rattle.sound.specs.Frames.{starts-all, apply-length}
-use Rattle.sound.specs.Edits.{size-32}
+use Rattle.sound.specs.Edits.{tiled-tiles, size-32}
 use Rattle.sound.specs.Spares.{clear-of}
 use Rattle.sound.specs.Moves.{answerOf}
 use Rattle.sound.specs.Ends.{Ends}
@@ -39,6 +42,7 @@ use Rattle.sound.specs.Release.{both-true}
 use Rattle.sound.specs.Unsorted.{unsorted-few}
 use Rattle.sound.specs.Live.{But, Gives, live-loose, loose-live, release-goes, settle-stays, grant-gives, grant-refused}
 use Rattle.audit.specs.Exact.{arena-words, audit-good}
+use Rattle.primitives.specs.Follow.{Has, Does}
 use Rattle.calls.specs.Ways.{allowed-true, grant-shape, grant-request, grant-unsound, release-shape, release-unsound, settle-shape, settle-unsound}
 use Rattle.calls.specs.Written.{top-most, chunk-most}
 use Rattle.calls.specs.Remainder.{Fine, grant-fine, release-fine, settle-fine}
@@ -52,6 +56,21 @@ pub unsound-refused : (a r : List ℕ) (n m : ℕ) → Lent a r → UnsoundIn a 
 unsound-refused a r n m L U l =
     let e = lent-shape a r L .1 in
     (sym (grant-unsound a r n e (le-ltb mostRequest n l) U), sym (release-unsound a r m e U), sym (settle-unsound a r e U))
+
+-- ---- a closed record, which a refused open leaves, is unsound with every arena of an allowed length: its length is 0
+closed-length : getD (wordsOf (bytes 4 closedRecord)) lengthWord 0 ≡ 0
+unfolding closedRecord words bytes digits number numberFrom
+closed-length = refl
+
+first-fault : (x y : Audited) → sound? x ≡ false → sound? (first x y) ≡ false
+first-fault x y e = ap (λ (t : Bool). sound? (elim t [ true ↦ y | false ↦ x ])) e ∙ e
+
+pub closed-unsound : (a : List ℕ) → 32 ≤ length a → UnsoundIn a (bytes 4 closedRecord)
+unfolding auditOf
+closed-unsound a l =
+    let e : eqb (getD (wordsOf (bytes 4 closedRecord)) lengthWord 0) (8 * length (arenaWords a)) ≡ false =
+    ap (λ (n : ℕ). eqb n (8 * length (arenaWords a))) closed-length ∙ ne-eqb 0 (8 * length (arenaWords a)) (λ z. omega (arith, z, length-arenaWords a)) in
+    first-fault (recordFault (arenaWords a) (wordsOf (bytes 4 closedRecord))) _ (ap (λ (t : Bool). sound? (elim t [ true ↦ A.Sound | false ↦ A.Record ])) e)
 
 -- ---- number 1: bytes of bad shape
 pub bad-shape-refused : (a r : List ℕ) (n m : ℕ) → shape? a r ≡ false
@@ -70,6 +89,14 @@ results-unique call a b r s x y p q =
 
 pub audits-unique : (a r : List ℕ) (x y : Audited) → x ≡ auditCall a r → y ≡ auditCall a r → x ≡ y
 audits-unique a r x y p q = p ∙ sym q
+
+-- so are those of a step: on a heap that there is (Has), what it does (Does) is its answer, its words and its record
+pub does-unique : {A : Type 0} (P : Heap → Type 0) (f : Heap → Ran A) (w r v u q p : List ℕ) (x y : A) → Has P w r → Does A P f w r x v q → Does A P f w r y u p
+    → (x ≡ y) × (v ≡ u) × (q ≡ p)
+does-unique P f w r v u q p x y H d e =
+    let g = d .does (H .heap) (H .ok) (H .holds) in
+    let k = e .does (H .heap) (H .ok) (H .holds) in
+    (sym (g .says) ∙ k .says, g .bytes ∙ sym (k .bytes), g .rec ∙ sym (k .rec))
 
 -- ---- what cannot be
 pub clash : {B : Type 0} → _≡_ {A = ℕ} 0 1 → B
@@ -106,6 +133,7 @@ block-at g n c G lo b =
     let z : 32 ≤ sizeOf g c = size-32 g c s m in
     record {
       low = omega arith;
+      even = omega (arith, start (g .tiles) 0 c (tiled-tiles g s) m .even);
       live = rw k (loose-live g c s lo);
       usable = rw k;
       holds = omega (arith, need-bounds n .holds);

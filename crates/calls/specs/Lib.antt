@@ -11,3 +11,4 @@ pub mod Left
 pub mod Cases
 pub mod Consequences
 pub mod ResizeConsequences
+pub mod FirstWord

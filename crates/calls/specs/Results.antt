@@ -66,10 +66,11 @@ pub record LiveKept (a r : List ℕ) (c : ℕ) (x : After) : Type 0 where
   pub size : sizeOf (heapLeft x) c ≡ sizeOf (heapIn a r) c
   pub bytes : (i : ℕ) → c + 16 ≤ i → i < c + sizeOf (heapIn a r) c + 8 → getD (arenaLeft x) i 0 ≡ getD a i 0
 
--- ---- a block for n bytes at mem, with u usable bytes, in an arena of len; g is the heap. Its chunk is live, u is the chunk's size less 8 and at least n, the
--- usable bytes lie in the arena, and none of them is another live block's
+-- ---- a block for n bytes at mem, with u usable bytes, in an arena of len; g is the heap. Mem is a multiple of 16, not 0; its chunk is live, u is the chunk's
+-- size less 8 and at least n, the usable bytes lie in the arena, and none of them is another live block's
 pub record BlockAt (g : Heap) (len n mem u : ℕ) : Type 0 where
   pub low : 16 ≤ mem
+  pub even : mem % 16 ≡ 0
   pub live : live? g (mem - 16) ≡ true
   pub usable : u ≡ sizeOf g (mem - 16) - 8
   pub holds : n ≤ u

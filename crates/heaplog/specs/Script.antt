@@ -1,11 +1,10 @@
--- What heaplog prints for a whole script, line by line; and the same as the code goes, byte by byte. Definitions only; ScriptLaws has their equality.
+-- What heaplog prints for a whole script, line by line; and the same byte by byte, and as the code goes, piece by piece. Definitions only; ScriptLaws has their equality.
 use mathlib.Core.List.{List, [], _∷_, _++_}
 use mathlib.Core.Bool.{true, false}
 use Prim.Native.Nat.{ℕ}
 use lib.Dec.{eqb}
-use lib.ListN.{replicate}
 use Rattle.script_format.specs.Format.{newline, header}
-use Rattle.script_run.specs.Run.{Run, run, Step, step, lineStep, byteStep, endStep}
+use Rattle.script_run.specs.Run.{Run, run, Step, step, beforeAll, lineStep, byteStep, pieceStep, endStep}
 
 -- the lines of a text, after the bytes p of a line: each ends in a newline, which the last may lack if it has a byte
 abbrev pub lastLine : List ℕ → List (List ℕ)
@@ -26,10 +25,6 @@ printed [] s = []
 printed (l ∷ ls) (run a r t k n true) = []
 printed (l ∷ ls) (run a r t k n false) = andThen (lineStep (run a r l k n false)) (printed ls)
 
--- before the first line nothing is open; lent bytes and record are zeros
-abbrev pub beforeAll : Run
-beforeAll = run (replicate 49152 0) (replicate 1572 0) [] 0 0 false
-
 -- heaplog
 unfoldable pub heaplog : List ℕ → List ℕ
 heaplog text = header ++ printed (linesFrom [] text) beforeAll
@@ -38,3 +33,12 @@ heaplog text = header ++ printed (linesFrom [] text) beforeAll
 unfoldable pub printedBytes : List ℕ → Run → List ℕ
 printedBytes [] s = andThen (endStep s) (λ _. [])
 printedBytes (b ∷ t) s = andThen (byteStep b s) (printedBytes t)
+
+-- ---- the same for a script that is read in pieces, whatever their lengths
+unfoldable pub whole : List (List ℕ) → List ℕ
+whole [] = []
+whole (p ∷ ps) = p ++ whole ps
+
+unfoldable pub printedPieces : List (List ℕ) → Run → List ℕ
+printedPieces [] s = andThen (endStep s) (λ _. [])
+printedPieces (p ∷ ps) s = andThen (pieceStep p s) (printedPieces ps)

@@ -1,6 +1,6 @@
--- Byte by byte, keeping 18 bytes of a line, prints what line by line prints. Assumes nothing.
+-- Byte by byte, keeping 18 bytes of a line, prints what line by line prints; and so does piece by piece, whatever the pieces. Assumes nothing.
 use mathlib.Core.Path.{_≡_, refl, sym, ap, _∙_}
-use mathlib.Core.List.{List, [], _∷_, _++_}
+use mathlib.Core.List.{List, [], _∷_, _++_, append-assoc}
 use mathlib.Core.Bool.{Bool, true, false}
 use Prim.Native.Nat.{ℕ, zero, suc}
 use lib.Dec.{eqb}
@@ -11,8 +11,8 @@ use Rattle.script.specs.Grammar.{lineOf, keptBytes}
 use Rattle.script.specs.declared.Line.{Line}
 use Rattle.script_reader.specs.GrammarLaws.{lineOf-take}
 use Rattle.script_format.specs.Format.{newline, questionText, header}
-use Rattle.script_run.specs.Run.{Run, run, Step, step, called, lengthOf, ranStep, counted, placedStep, lineStep, byteStep, endStep}
-use Rattle.heaplog.specs.Script.{linesFrom, andThen, printed, beforeAll, heaplog, printedBytes}
+use Rattle.script_run.specs.Run.{Run, run, Step, step, behind, andOn, beforeAll, called, lengthOf, ranStep, counted, placedStep, lineStep, byteStep, pieceStep, endStep}
+use Rattle.heaplog.specs.Script.{linesFrom, andThen, printed, heaplog, printedBytes, whole, printedPieces}
 
 take-take : (n : ℕ) (p q : List ℕ) → take n (take n p ++ q) ≡ take n (p ++ q)
 take-take zero p q = refl
@@ -75,7 +75,30 @@ bytes-lines (b ∷ t) p a r k n = go (λ q a r k n. bytes-lines t q a r k n) (eq
         ∙ line-then (printedBytes t) (printed (linesFrom [] t)) (on rest) a r p k n
     go rest false = rw (take-take keptBytes p (b ∷ [])) (rest (p ++ (b ∷ [])) a r k n)
 
--- heaplog, as the code goes
+-- heaplog, byte by byte
 pub heaplog-bytes : (text : List ℕ) → header ++ printedBytes text beforeAll ≡ heaplog text
 unfolding heaplog
 heaplog-bytes text = ap (λ (l : List ℕ). header ++ l) (bytes-lines text [] _ _ 0 0)
+
+then-behind : (p : List ℕ) (x : Step) (f : Run → List ℕ) → andThen (behind p x) f ≡ p ++ andThen x f
+then-behind p (step s o) f = append-assoc p o (f s)
+
+then-on : (x : Step) (f : Run → Step) (g : Run → List ℕ) → andThen (andOn x f) g ≡ andThen x (λ s. andThen (f s) g)
+then-on (step s o) f g = then-behind o (f s) g
+
+then-same : (x : Step) {f g : Run → List ℕ} → ((s : Run) → f s ≡ g s) → andThen x f ≡ andThen x g
+then-same (step s o) h = ap (λ (l : List ℕ). o ++ l) (h s)
+
+piece-bytes : (t u : List ℕ) (s : Run) → andThen (pieceStep t s) (printedBytes u) ≡ printedBytes (t ++ u) s
+unfolding pieceStep printedBytes
+piece-bytes [] u s = refl
+piece-bytes (b ∷ t) u s = then-on (byteStep b s) (pieceStep t) (printedBytes u) ∙ then-same (byteStep b s) (piece-bytes t u)
+
+pieces-bytes : (ps : List (List ℕ)) (s : Run) → printedPieces ps s ≡ printedBytes (whole ps) s
+unfolding printedPieces printedBytes whole
+pieces-bytes [] s = refl
+pieces-bytes (p ∷ ps) s = then-same (pieceStep p s) (pieces-bytes ps) ∙ piece-bytes p (whole ps) s
+
+-- heaplog, as the code goes: the header, each piece that is read, and the end
+pub heaplog-pieces : (ps : List (List ℕ)) → header ++ printedPieces ps beforeAll ≡ heaplog (whole ps)
+heaplog-pieces ps = ap (λ (l : List ℕ). header ++ l) (pieces-bytes ps beforeAll) ∙ heaplog-bytes (whole ps)

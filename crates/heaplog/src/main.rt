@@ -1,64 +1,58 @@
-// heaplog: runs a script of calls from standard input and prints a line for each. Reading and writing stand here; what a byte does stands in `script_run`.
-// Assumes nothing of its own: what io's reads and writes assume, libc says.
+// heaplog: runs a script of calls from standard input and prints a line for each. Reading and writing stand here; what a piece of the script does stands in
+// `script_run`. Assumes nothing of its own: what io's reads and writes assume, libc says.
+ghost use mathlib.Core.Path.{_≡_};
 ghost use Prim.Native.Nat.{_≤_};
+ghost use lib.ListN.{length};
 ghost use Rattle.script_run.specs.Run.{Buffers};
 use libc::STDIN_FILENO;
 use libc::STDOUT_FILENO;
 use script_run::Log;
 
-// Feeds the bytes of a piece, and writes what each step prints.
-fn feed_piece(
-    mut log: Log,
-    piece: &[u8],
-    arena: &mut [u8],
-    control: &mut [u8],
-    out: &mut [u8],
-) -> Log
-    requires { ⌜ Buffers (now arena) (now control) (now out) ⌝ }
-    requires { ⌜ log .opened ≤ 49152 ⌝ }
-    ensures { λ s. ⌜ s .opened ≤ 49152 ⌝ }
+// The output buffer: room for a line of 86 bytes for each byte of a piece.
+fn out_buffer() -> [u8; 352256] {
+    [0u8; 352256]
+}
+
+// Writes what the run has printed.
+fn write_printed(mut log: Log, out: &[u8]) -> Log
+    requires { ⌜ log .printed ≤ length (now out) ⌝ }
+    ensures { λ s. ⌜ s .opened ≡ log .opened ⌝ }
+    ensures { λ s. ⌜ s .printed ≡ 0 ⌝ }
 {
-    let mut i = 0;
-    while i < piece.len() {
-        log = script_run::feed(log, piece[i], arena, control, out);
-        let n = log.printed;
-        io::write_all(STDOUT_FILENO, &out[..n]);
-        i += 1;
-    }
+    let n = log.printed;
+    io::write_all(STDOUT_FILENO, &out[..n]);
+    log.printed = 0;
     log
 }
 
-// Reads one piece and feeds it; where the input ends, so does the run.
+// Reads one piece, feeds it, and writes what it printed; where the input ends, so does the run.
 fn turn(log: Log, arena: &mut [u8], control: &mut [u8], out: &mut [u8]) -> Log
-    requires { ⌜ Buffers (now arena) (now control) (now out) ⌝ }
+    requires { ⌜ Buffers (now arena) (now control) ⌝ }
+    requires { ⌜ length (now out) ≡ 352256 ⌝ }
     requires { ⌜ log .opened ≤ 49152 ⌝ }
+    requires { ⌜ log .printed ≡ 0 ⌝ }
     ensures { λ s. ⌜ s .opened ≤ 49152 ⌝ }
+    ensures { λ s. ⌜ s .printed ≡ 0 ⌝ }
 {
-    let mut buf = io::large_buffer();
+    let mut buf = io::buffer();
     let got = libc::read(STDIN_FILENO, &mut buf);
     let n = io::count(got, &buf);
     if n == 0 {
-        let mut last = script_run::finish(log, arena, control, out);
-        let k = last.printed;
-        io::write_all(STDOUT_FILENO, &out[..k]);
-        last.ended = true;
-        return last;
+        let last = script_run::finish(log, arena, control, out);
+        let mut ended = write_printed(last, out);
+        ended.ended = true;
+        return ended;
     }
-    feed_piece(log, &buf[..n], arena, control, out)
+    let fed = script_run::feed_piece(log, &buf[..n], arena, control, out);
+    write_printed(fed, out)
 }
 
 fn main() {
-    io::write_all(STDOUT_FILENO, b"call no at usable top\n");
     let mut arena = [0u8; 49152];
     let mut control = [0u8; 1572];
-    let mut out = [0u8; 86];
-    let mut log = Log {
-        text: script_reader::no_bytes(),
-        lines: 0,
-        opened: 0,
-        ended: false,
-        printed: 0,
-    };
+    let mut out = out_buffer();
+    let begun = script_run::begin(&mut arena, &mut control, &mut out);
+    let mut log = write_printed(begun, &out);
     // Nothing says that the input ends: a number that falls.
     let mut left: u64 = 18446744073709551615;
     while left != 0 {

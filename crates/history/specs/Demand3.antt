@@ -1,7 +1,7 @@
--- Demand 3, stated of offsets and bytes: what is free after a settle, which blocks are live, what an emptied heap is, and all of it of a run (Demand).
--- Definitions only; that it holds of every run stands in Theorem.
+-- Demand 3, stated of offsets, bytes and numbers: what is free after a settle, which blocks are live, what an emptied heap is, and all of it of what was
+-- performed (Demand). Definitions only; that it holds of every history stands in Theorem.
 use mathlib.Core.Path.{_≡_}
-use mathlib.Core.List.{List, [], _∷_, _++_}
+use mathlib.Core.List.{List, [], _∷_}
 use mathlib.Core.Bool.{Bool, false}
 use mathlib.Core.Logic.{_⊎_}
 use Prim.Native.Nat.{ℕ, _+_, _-_, _≤_, _<_}
@@ -10,11 +10,11 @@ use lib.ListN.{length}
 use Rattle.le.specs.Number.{number}
 use Rattle.machine.specs.Lists.{either}
 use Rattle.machine.specs.Heap.{binned, live?}
-use Rattle.machine.specs.Calls.{heapIn, answerNumbers}
-use Rattle.machine.specs.declared.Answer.{Answer}
-use Rattle.machine.specs.declared.Answer.the-variants.{Done}
+use Rattle.machine.specs.Calls.{heapIn, auditCall, faultNumbers}
+use Rattle.machine.specs.declared.HeapAnswer.{HeapAnswer}
 use Rattle.calls.specs.Results.{Lent}
-use Rattle.history.specs.Histories.{Event, Settle, Block, State, state, recordIn, blocksIn, run, answerTo, answers, begin}
+use Rattle.history.specs.Histories.{Event, Block, State, state, recordIn, blocksIn}
+use Rattle.history.specs.Performed.{Began, Did}
 
 -- offset x lies in the chunk of the block b: its header and all its usable bytes but the last eight, which are the next chunk's previous size
 abbrev pub In : Block → ℕ → Type 0
@@ -66,25 +66,39 @@ held? (b ∷ bs) m = either (eqb m (b .mem)) (held? bs m)
 abbrev pub LiveAt : State → Type 0
 LiveAt (state a r bs) = (c : ℕ) → live? (heapIn a r) c ≡ held? bs (c + 16)
 
--- ---- an answer that is neither number 1, a bad shape, nor number 3, an unsound heap
-pub record Fair (x : Answer) : Type 0 where
-  pub shape : answerNumbers x .no ≡ 1 → ⊥
-  pub sound : answerNumbers x .no ≡ 3 → ⊥
+-- an audit answers 0, 0, 0: sound
+abbrev pub AuditsAt : State → Type 0
+AuditsAt (state a r bs) = faultNumbers (auditCall a r) ≡ record { no = 0; kind = 0; number = 0 }
 
-abbrev pub AllFair : List Answer → Type 0
+-- ---- three numbers of which the first is neither 1, a bad shape, nor 3, an unsound heap
+pub record Fair (x : HeapAnswer) : Type 0 where
+  pub shape : x .no ≡ 1 → ⊥
+  pub sound : x .no ≡ 3 → ⊥
+
+abbrev pub AllFair : List HeapAnswer → Type 0
 AllFair [] = Unit {0}
 AllFair (x ∷ xs) = Fair x × AllFair xs
 
--- ---- a state has the record of a newly opened arena of n bytes, and is answered as any such arena is, whatever bytes it holds
-pub record New (n : ℕ) (s : State) : Type 0 where
-  pub rec : (a r : List ℕ) → Lent a r → length a ≡ n → recordIn s ≡ recordIn (begin a r)
-  pub told : (a r : List ℕ) → Lent a r → length a ≡ n → (es : List Event) → answers es s ≡ answers es (begin a r)
+-- success, and no block
+abbrev pub Zeros : HeapAnswer → Type 0
+Zeros x = x ≡ record { no = 0; mem = 0; usable = 0 }
 
--- ---- demand 3 of a run of es on newly opened bytes a and r: no call is refused for shape or soundness, the live blocks are those granted and not yet
--- released (a resized block is both), and a settle at its end is not refused, leaves nothing cut up, and, where no block is held, a new heap
-pub record Demand (a r : List ℕ) (es : List Event) : Type 0 where
-  pub fair : AllFair (answers es (begin a r))
-  pub live : LiveAt (run es (begin a r))
-  pub settles : answerTo Settle (run es (begin a r)) ≡ Done ∷ []
-  pub mended : MendedAt (run (es ++ Settle ∷ []) (begin a r))
-  pub emptied : blocksIn (run (es ++ Settle ∷ []) (begin a r)) ≡ [] → New (length a) (run (es ++ Settle ∷ []) (begin a r))
+-- ---- a state is as a newly opened arena of n bytes: whatever bytes b and q were opened, o, the same events performed on both are answered with the same
+-- numbers and leave the same record, none (the record that there is), one or many
+pub record New (n : ℕ) (s : State) : Type 0 where
+  pub told : (b q : List ℕ) (x : HeapAnswer) (o : State) → Lent b q → length b ≡ n → Began b q x o
+      → (es : List Event) (xs ys : List HeapAnswer) (t u : State) → Did s es xs t → Did o es ys u → xs ≡ ys
+  pub recs : (b q : List ℕ) (x : HeapAnswer) (o : State) → Lent b q → length b ≡ n → Began b q x o
+      → (es : List Event) (xs ys : List HeapAnswer) (t u : State) → Did s es xs t → Did o es ys u → recordIn t ≡ recordIn u
+
+-- ---- demand 3 of a history that was performed on an arena of n bytes: the open answered x, the calls xs and it left t; then a settle answered y and left u.
+-- No call is refused for shape or soundness, an audit finds no fault, the live blocks are those granted and not yet released (a resized block is both), and
+-- the settle is not refused, leaves nothing cut up, and, where no block is held, a new heap
+pub record Demand (n : ℕ) (x : HeapAnswer) (xs : List HeapAnswer) (t : State) (y : HeapAnswer) (u : State) : Type 0 where
+  pub opens : Zeros x
+  pub fair : AllFair xs
+  pub audits : AuditsAt t
+  pub live : LiveAt t
+  pub settles : Zeros y
+  pub mended : MendedAt u
+  pub emptied : blocksIn u ≡ [] → New n u

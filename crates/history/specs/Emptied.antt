@@ -135,7 +135,3 @@ module _ (a r : List ℕ) (L : Lent a r) (es : List Event) (none : blocksIn (run
       ∙ ap (λ (h : Heap). bytes 4 (recordOf h))
       (alike-heaps (run fs s) (run fs t) (run-alike Equal Any equal-steady fs s t (any-always fs s t) emptied-alike ready (begin-ready a′ r′ L′)))
       ∙ sym (record-bytes (run fs t) (run-ready fs t (begin-ready a′ r′ L′)))
-
-  pub emptied-record : recordIn (run (es ++ Settle ∷ []) (begin a r)) ≡ recordIn (begin a′ r′)
-  unfolding run
-  emptied-record = emptied-records []

@@ -1,14 +1,14 @@
 -- Histories: any bytes, an open, then any calls, and holders that write in the usable bytes of blocks they hold. Over the calls on bytes themselves.
 -- Definitions only.
-use mathlib.Core.List.{List, [], _∷_, _++_}
+use mathlib.Core.List.{List, [], _∷_, _++_, map}
 use mathlib.Core.Bool.{Bool, true, false}
 use Prim.Native.Nat.{ℕ, _+_, _%_}
 use lib.Dec.{eqb, ltb, leb}
 use lib.ListN.{set}
 use Rattle.machine.specs.Lists.{both, either}
 use Rattle.machine.specs.Heap.{Heap}
-use Rattle.machine.specs.Calls.{After, after, heapIn, openCall, grantCall, releaseCall, resizeCall, settleCall}
-use Rattle.machine.specs.declared.Answer.{Answer}
+use Rattle.machine.specs.Calls.{After, after, answerNumbers, heapIn, openCall, grantCall, releaseCall, resizeCall, settleCall}
+use Rattle.machine.specs.declared.{Answer.Answer, HeapAnswer.HeapAnswer}
 use Rattle.machine.specs.declared.Answer.the-variants.{Done, Granted, Refused}
 
 -- what happens: a call with any numbers, or a holder's write of a byte at an offset of the arena. A resize has a mem and the new length
@@ -99,6 +99,10 @@ answerTo (Store p v) (state a r bs) = []
 unfoldable pub answers : List Event → State → List Answer
 answers [] s = []
 answers (e ∷ es) s = answerTo e s ++ answers es (next e s)
+
+-- and as numbers
+unfoldable pub numbers : List Event → State → List HeapAnswer
+numbers es s = map answerNumbers (answers es s)
 
 -- a newly opened arena, over any bytes: no block is held
 unfoldable pub begin : List ℕ → List ℕ → State

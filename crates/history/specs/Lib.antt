@@ -1,4 +1,5 @@
 pub mod Histories
+pub mod Performed
 pub mod Demand3
 pub mod Ready
 pub mod Called
@@ -11,7 +12,7 @@ pub mod Settles
 pub mod Alike
 pub mod Lengths
 pub mod Emptied
+pub mod PerformedRuns
 pub mod Theorem
 pub mod Spared
-pub mod Performed
 pub mod Sample

@@ -1,13 +1,14 @@
--- In a run no call is refused for shape or soundness, a settle never, and a release exactly of what is not held: the live blocks are those granted and not
--- yet released. Read off what holds between events. Assumes nothing.
+-- In a run no call is refused for shape or soundness, an audit finds no fault, a settle is never refused, and a release exactly of what is not held: the live
+-- blocks are those granted and not yet released. Read off what holds between events. Assumes nothing.
 use mathlib.Core.Path.{_≡_, refl, sym, ap, _∙_, subst}
-use mathlib.Core.List.{List, [], _∷_, _++_}
+use mathlib.Core.List.{List, [], _∷_, _++_, map}
 use mathlib.Core.Bool.{Bool, true, false}
 use mathlib.Core.Logic.{⊎-elim}
 use Prim.Native.Nat.{ℕ, _+_, _-_, _≤_}
 use native.Mathlib.Omega.{arith}
 use lib.Dec.{eqb, leb, ltb}
 use borrow.Author.Tests.{lt-ltb, ne-eqb, leb-true, leb-false}
+use Rattle.le.specs.Arena.{arenaWords}
 use Rattle.sizes.specs.Sizes.{need}
 use Rattle.machine.specs.Lists.{both, either, ind, cnt}
 use Rattle.machine.specs.Heap.{Heap, starts, live?, total}
@@ -15,15 +16,19 @@ use Rattle.machine.specs.Writes.{Ran, ran}
 use Rattle.machine.specs.Release.{release, settle}
 use Rattle.machine.specs.Grant.{grant}
 use Rattle.machine.specs.Resize.{resize}
+use Rattle.machine.specs.Audit.{auditOf}
 use Rattle.machine.specs.Calls as C
 use Rattle.machine.specs.declared.{Got.Got, Got.the-variants.At, Got.the-variants.Nothing, Answer.Answer}
 use Rattle.machine.specs.declared.Answer.the-variants.{Done, Refused}
 use Rattle.machine.specs.declared.Refusal.the-variants as N
 use Rattle.sound.specs.Tiles.{lt-or-le, zero-or}
 use Rattle.sound.specs.Live.{loose-live}
-use Rattle.history.specs.Histories.{Event, Grant, Release, Resize, Settle, Store, Block, State, state, answerOf, answerTo, answers, next, run, begin}
+use Rattle.audit.specs.Exact.{audit-complete}
+use Rattle.history.specs.Histories.{Event, Grant, Release, Resize, Settle, Store, Block, State, state, answerOf, answerTo, answers, numbers, next, run, begin}
 use Rattle.calls.specs.Results.{Lent}
-use Rattle.history.specs.Demand3.{held?, LiveAt, Fair, AllFair}
+use Rattle.calls.specs.Left.{lent-shape}
+use Rattle.calls.specs.Ways.{audit-good}
+use Rattle.history.specs.Demand3.{held?, LiveAt, AuditsAt, Fair, AllFair}
 use Rattle.history.specs.Ready.{heldAt, Ready, ReadyAt}
 use Rattle.history.specs.Called.{grant-large, grant-called, release-called, settle-called, Way, Null, Zero, Large, Dead, Through, way, resizeBy, resize-called}
 use Rattle.history.specs.Runs.{begin-ready, next-ready, run-ready}
@@ -60,8 +65,18 @@ ready-live (state a r bs) R = λ c. ⊎-elim
 pub run-live : (a r : List ℕ) → Lent a r → (es : List Event) → LiveAt (run es (begin a r))
 run-live a r L es = ready-live (run es (begin a r)) (run-ready es (begin a r) (begin-ready a r L))
 
+-- ---- an audit finds no fault
+pub ready-audits : (s : State) → ReadyAt s → AuditsAt s
+ready-audits (state a r bs) R =
+    ap C.faultNumbers
+    (sym (audit-good a r (C.wordsOf r) (auditOf (arenaWords a) (C.wordsOf r)) (lent-shape a r (R .lent) .1) refl refl)
+    ∙ audit-complete (C.heapIn a r) (arenaWords a) (C.wordsOf r) (R .sound))
+
 -- ---- no answer has number 1 or number 3
-fair-got : (a : List ℕ) (x : Ran Got) → Fair (answerOf (C.granted a x))
+abbrev FairOf : C.After → Type 0
+FairOf x = Fair (C.answerNumbers (answerOf x))
+
+fair-got : (a : List ℕ) (x : Ran Got) → FairOf (C.granted a x)
 fair-got a (ran g ws (At c)) = record { shape = λ e. omega arith; sound = λ e. omega arith }
 fair-got a (ran g ws Nothing) = record { shape = λ e. omega arith; sound = λ e. omega arith }
 
@@ -70,6 +85,10 @@ done-answer a (ran g ws y) = refl
 
 pub settle-done : (s : State) → ReadyAt s → answerTo Settle s ≡ Done ∷ []
 settle-done (state a r bs) R = ap (λ (x : C.After). answerOf x ∷ []) (settle-called a r (R .lent) (R .sound)) ∙ ap (λ (x : Answer). x ∷ []) (done-answer a (settle (C.heapIn a r)))
+
+pub settle-numbers : (s : State) → ReadyAt s → numbers (Settle ∷ []) s ≡ record { no = 0; mem = 0; usable = 0 } ∷ []
+unfolding numbers answers
+settle-numbers s R = ap (λ (l : List Answer). map C.answerNumbers (l ++ [])) (settle-done s R)
 
 -- a release answers by what is held
 abbrev pub releaseAnswer : List Block → ℕ → Answer
@@ -102,54 +121,55 @@ release-answered a r bs R m = ap answerOf (release-called a r (R .lent) (R .soun
     null true e = refl
     null false e = chunk (leb 16 m) refl
 
-fair-release : (bs : List Block) (m : ℕ) → Fair (releaseAnswer bs m)
+fair-release : (bs : List Block) (m : ℕ) → Fair (C.answerNumbers (releaseAnswer bs m))
 fair-release bs m = go (either (eqb m 0) (held? bs m))
   where
-    go : (t : Bool) → Fair (elim t [ true ↦ Done | false ↦ Refused N.NotLive ])
+    go : (t : Bool) → Fair (C.answerNumbers (elim t [ true ↦ Done | false ↦ Refused N.NotLive ]))
     go true = record { shape = λ e. omega arith; sound = λ e. omega arith }
     go false = record { shape = λ e. omega arith; sound = λ e. omega arith }
 
 module _ (a r : List ℕ) (bs : List Block) (R : Ready a r bs) where
-  grant-fair : (n : ℕ) → Fair (answerOf (C.grantCall a r n))
+  grant-fair : (n : ℕ) → FairOf (C.grantCall a r n)
   grant-fair n = ⊎-elim
-      (λ l. subst (λ (x : C.After). Fair (answerOf x)) (sym (grant-large a r (R .lent) (R .sound) n l)) (record { shape = λ e. omega arith; sound = λ e. omega arith }))
-      (λ l. subst (λ (x : C.After). Fair (answerOf x)) (sym (grant-called a r (R .lent) (R .sound) n l)) (fair-got a (grant (need n) (C.heapIn a r))))
+      (λ l. subst FairOf (sym (grant-large a r (R .lent) (R .sound) n l)) (record { shape = λ e. omega arith; sound = λ e. omega arith }))
+      (λ l. subst FairOf (sym (grant-called a r (R .lent) (R .sound) n l)) (fair-got a (grant (need n) (C.heapIn a r))))
       (lt-or-le 262144 n)
 
-  release-fair : (m : ℕ) → Fair (answerOf (C.releaseCall a r m))
-  release-fair m = subst Fair (sym (release-answered a r bs R m)) (fair-release bs m)
+  release-fair : (m : ℕ) → FairOf (C.releaseCall a r m)
+  release-fair m = subst (λ (x : Answer). Fair (C.answerNumbers x)) (sym (release-answered a r bs R m)) (fair-release bs m)
 
-  resize-fair : (m n : ℕ) → Fair (answerOf (C.resizeCall a r m n))
+  resize-fair : (m n : ℕ) → FairOf (C.resizeCall a r m n)
   resize-fair m n =
       let w = way (C.heapIn a r) m n in
-      subst (λ (x : C.After). Fair (answerOf x)) (sym (resize-called a r (R .lent) (R .sound) m n w)) (go w)
+      subst FairOf (sym (resize-called a r (R .lent) (R .sound) m n w)) (go w)
     where
-      go : (w : Way (C.heapIn a r) m n) → Fair (answerOf (resizeBy a r m n w))
+      go : (w : Way (C.heapIn a r) m n) → FairOf (resizeBy a r m n w)
       go (Null z) = grant-fair n
       go (Zero z k) = release-fair m
       go (Large z k l) = record { shape = λ e. omega arith; sound = λ e. omega arith }
       go (Dead z k l v) = record { shape = λ e. omega arith; sound = λ e. omega arith }
       go (Through z k l v) = fair-got a (resize (m - 16) (need n) (C.heapIn a r))
 
-pub next-fair : (e : Event) (s : State) → ReadyAt s → AllFair (answerTo e s)
+abbrev AllFairOf : List Answer → Type 0
+AllFairOf xs = AllFair (map C.answerNumbers xs)
+
+next-fair : (e : Event) (s : State) → ReadyAt s → AllFairOf (answerTo e s)
 next-fair (Grant n) (state a r bs) R = (grant-fair a r bs R n, tt)
 next-fair (Release m) (state a r bs) R = (release-fair a r bs R m, tt)
 next-fair (Resize m n) (state a r bs) R = (resize-fair a r bs R m n, tt)
-next-fair Settle (state a r bs) R = subst AllFair (sym (settle-done (state a r bs) R)) (record { shape = λ e. omega arith; sound = λ e. omega arith }, tt)
+next-fair Settle (state a r bs) R = subst AllFairOf (sym (settle-done (state a r bs) R)) (record { shape = λ e. omega arith; sound = λ e. omega arith }, tt)
 next-fair (Store p v) (state a r bs) R = tt
 
-fair-append : (xs ys : List Answer) → AllFair xs → AllFair ys → AllFair (xs ++ ys)
+fair-append : (xs ys : List Answer) → AllFairOf xs → AllFairOf ys → AllFairOf (xs ++ ys)
 fair-append [] ys p q = q
 fair-append (x ∷ xs) ys p q = (p .0, fair-append xs ys (p .1) q)
 
-answers-fair : (es : List Event) (s : State) → ReadyAt s → AllFair (answers es s)
+answers-fair : (es : List Event) (s : State) → ReadyAt s → AllFairOf (answers es s)
 unfolding answers
 answers-fair [] s R = tt
 answers-fair (e ∷ es) s R = fair-append (answerTo e s) (answers es (next e s)) (next-fair e s R) (answers-fair es (next e s) (next-ready e s R))
 
 -- ---- in every run
-pub run-fair : (a r : List ℕ) → Lent a r → (es : List Event) → AllFair (answers es (begin a r))
+pub run-fair : (a r : List ℕ) → Lent a r → (es : List Event) → AllFair (numbers es (begin a r))
+unfolding numbers
 run-fair a r L es = answers-fair es (begin a r) (begin-ready a r L)
-
-pub run-settles : (a r : List ℕ) → Lent a r → (es : List Event) → answerTo Settle (run es (begin a r)) ≡ Done ∷ []
-run-settles a r L es = settle-done (run es (begin a r)) (run-ready es (begin a r) (begin-ready a r L))

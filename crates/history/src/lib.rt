@@ -1,10 +1,10 @@
 // Histories of calls and holders' writes, and what every one of them comes to: specs/Theorem.antt has demand 3. The code performs a history's calls by the
-// proved calls; specs/Performed.antt says what they come to.
+// exported calls, and answers C's three numbers.
 // Assumes nothing.
 ghost use mathlib.Core.Path.{_≡_};
-ghost use Rattle.machine.specs.Calls.{after};
+ghost use Rattle.heap.specs.Exported.{back, numbered};
 ghost use Rattle.history.specs.Performed.{callOf};
-use machine::Answer;
+use machine::HeapAnswer;
 
 // A call of a history, with its numbers.
 pub enum Call {
@@ -14,21 +14,21 @@ pub enum Call {
     Settle,
 }
 
-pub fn perform(arena: &mut [u8], control: &mut [u8], c: Call) -> Answer
-    ensures { λ x. ⌜ after (now (arena .exit)) (now (control .exit)) x ≡ callOf c (now (arena .entry)) (now (control .entry)) ⌝ }
+pub fn perform(arena: &mut [u8], control: &mut [u8], c: Call) -> HeapAnswer
+    ensures { λ x. ⌜ back (now (arena .exit)) (now (control .exit)) x ≡ numbered (callOf c (now (arena .entry)) (now (control .entry))) ⌝ }
 {
     match c {
         Call::Grant(n) => {
-            return calls::grant(arena, control, n);
+            return heap::heap_grant(arena, control, n);
         }
         Call::Release(m) => {
-            return calls::release(arena, control, m);
+            return heap::heap_release(arena, control, m);
         }
         Call::Resize(m, n) => {
-            return calls::resize(arena, control, m, n);
+            return heap::heap_resize(arena, control, m, n);
         }
         Call::Settle => {
-            return calls::settle(arena, control);
+            return heap::heap_settle(arena, control);
         }
     }
 }

@@ -12,7 +12,8 @@ use Rattle.sizes.specs.Sizes.{need}
 use Rattle.machine.specs.Heap.{Heap, cache, fast, bin, sizeOf, pOf, recordOf}
 use Rattle.machine.specs.Writes.{apply}
 use Rattle.machine.specs.Grant.{grant}
-use Rattle.machine.specs.Calls.{After, after, answerNumbers, openCall, granted, resizeCall}
+use Rattle.machine.specs.Audit.{auditOf}
+use Rattle.machine.specs.Calls.{After, after, answerNumbers, openCall, granted, grantCall, releaseCall, resizeCall}
 use Rattle.machine.proofs.Script.{Line, G, R, S, Z, script, outs, heapAfter, writesAfter, arenaAfter, same?}
 
 -- document 01's heaplog example behind its A 256, line by line: number, mem, usable and top
@@ -226,12 +227,21 @@ unfolding script fast-around heads last-line
 refused-p = refl
 
 -- on a newly opened arena of 32 bytes, which has no live block, a resize above 262,144 is refused with 2 and not with 4
+numberOf : After → ℕ
+numberOf (after a r x) = answerNumbers x .no
+
 numberAfter : (List ℕ → List ℕ → After) → After → ℕ
-numberAfter f (after a r x) = go (f a r)
-  where
-    go : After → ℕ
-    go (after a r x) = answerNumbers x .no
+numberAfter f (after a r x) = numberOf (f a r)
 
 number-2-first : numberAfter (λ a r. resizeCall a r 16 262145) (openCall (replicate 32 0) (replicate 1572 0)) ≡ 2
-unfolding numberAfter openCall resizeCall recordOf words digits bytes number numberFrom arenaWords
+unfolding numberOf numberAfter openCall resizeCall recordOf words digits bytes number numberFrom arenaWords
 number-2-first = refl
+
+-- on a record of zeros, which is no heap's, a grant above 262,144 is refused with 2 and not with 3, and null with 3
+number-2-before-3 : numberOf (grantCall (replicate 32 0) (replicate 1572 0) 262145) ≡ 2
+unfolding numberOf grantCall
+number-2-before-3 = refl
+
+null-unsound : numberOf (releaseCall (replicate 32 0) (replicate 1572 0) 0) ≡ 3
+unfolding numberOf releaseCall auditOf words digits bytes number numberFrom arenaWords
+null-unsound = refl

@@ -50,3 +50,8 @@ first-faults : same? faults
     (0 ∷ 0 ∷ 1 ∷ 0 ∷ 2 ∷ 32 ∷ 2 ∷ 32 ∷ 2 ∷ 176 ∷ 3 ∷ 0 ∷ 3 ∷ 0 ∷ 3 ∷ 0 ∷ 4 ∷ 0 ∷ 4 ∷ 7 ∷ 5 ∷ 1 ∷ 5 ∷ 1 ∷ 3 ∷ 0 ∷ 6 ∷ 144 ∷ 6 ∷ 144 ∷ 6 ∷ 0 ∷ []) ≡ true
 unfolding arena kept verdict faults auditOf tileFault listFault flagFault goodFrom listAt tilesOf stacksOf binsOf binOf largeBin
 first-faults = refl
+
+-- of two bad lists, the count of cache list 0 and the last of unsorted, the first is told
+first-of-two : same? (verdict arena (set (set kept 67 2) 142 none32)) (3 ∷ 0 ∷ []) ≡ true
+unfolding arena kept verdict auditOf tileFault listFault flagFault goodFrom listAt tilesOf stacksOf binsOf binOf largeBin
+first-of-two = refl

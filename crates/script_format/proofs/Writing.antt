@@ -2,10 +2,16 @@
 use mathlib.Core.Path.{_≡_, refl, ap, _∙_}
 use mathlib.Core.List.{List, [], _∷_, _++_, append-assoc, append-nil}
 use Prim.Native.Nat.{ℕ, zero, suc, _+_, _-_, _/_, _%_, _≤_, _<_}
+use native.Mathlib.Numerals.{add-one}
 use native.Mathlib.Omega.{arith}
+use lib.ListN.{length, getD, take}
+use lib.Seq.{take-suc}
 use borrow.Author.Tests.{lt-ltb, le-ltb}
 use Rattle.machine.specs.declared.HeapAnswer.{HeapAnswer}
 use Rattle.script_format.specs.Format.{decimal, field, callText, questionText}
+
+pub one-more : (p text : List ℕ) (i : ℕ) {x y : List ℕ} → i < length text → x ≡ p ++ take i text → y ≡ x ++ (getD text i 0 ∷ []) → y ≡ p ++ take (i + 1) text
+one-more p text i h e q = rw (add-one, take-suc text i 0 h) (q ∙ rw (e, append-assoc))
 
 pub no-digit : (p : List ℕ) (k n : ℕ) → k ≡ 0 → p ≡ p ++ decimal k n
 unfolding decimal
@@ -26,14 +32,14 @@ pub field-written : (p : List ℕ) (n : ℕ) {x y : List ℕ} → x ≡ p ++ (32
 unfolding field
 field-written p n s q = q ∙ rw (s, append-assoc)
 
-pub question-written : (k : ℕ) {x y z : List ℕ} → x ≡ 63 ∷ [] → y ≡ x ++ field k → z ≡ y ++ (10 ∷ []) → z ≡ questionText k
+pub question-written : (p : List ℕ) (k : ℕ) {x y z : List ℕ} → x ≡ p ++ (63 ∷ []) → y ≡ x ++ field k → z ≡ y ++ (10 ∷ []) → z ≡ p ++ questionText k
 unfolding questionText
-question-written k p q r = r ∙ rw (q, p)
+question-written p k e q r = r ∙ rw (q, e) (simp append-assoc)
 
-joined : (a b c d e : List ℕ) → (((a ++ b) ++ c) ++ d) ++ e ≡ a ++ (b ++ (c ++ (d ++ e)))
-joined a b c d e = simp append-assoc
+joined : (p l a b c d e : List ℕ) → (((((p ++ l) ++ a) ++ b) ++ c) ++ d) ++ e ≡ p ++ (l ++ (a ++ (b ++ (c ++ (d ++ e)))))
+joined p l a b c d e = simp append-assoc
 
-pub call-written : (letter top : ℕ) (w : HeapAnswer) {v : HeapAnswer} {x0 x1 x2 x3 x4 x5 : List ℕ} → v ≡ w → x0 ≡ letter ∷ [] → x1 ≡ x0 ++ field (v .no)
-    → x2 ≡ x1 ++ field (v .mem) → x3 ≡ x2 ++ field (v .usable) → x4 ≡ x3 ++ field top → x5 ≡ x4 ++ (10 ∷ []) → x5 ≡ callText letter w top
+pub call-written : (p : List ℕ) (letter top : ℕ) (w : HeapAnswer) {v : HeapAnswer} {x0 x1 x2 x3 x4 x5 : List ℕ} → v ≡ w → x0 ≡ p ++ (letter ∷ []) → x1 ≡ x0 ++ field (v .no)
+    → x2 ≡ x1 ++ field (v .mem) → x3 ≡ x2 ++ field (v .usable) → x4 ≡ x3 ++ field top → x5 ≡ x4 ++ (10 ∷ []) → x5 ≡ p ++ callText letter w top
 unfolding callText
-call-written letter top w e e0 e1 e2 e3 e4 e5 = e5 ∙ rw (e4, e3, e2, e1, e0, e) (ap (λ (l : List ℕ). letter ∷ l) (joined (field (w .no)) (field (w .mem)) (field (w .usable)) (field top) (10 ∷ [])))
+call-written p letter top w e e0 e1 e2 e3 e4 e5 = e5 ∙ rw (e4, e3, e2, e1, e0, e) (joined p (letter ∷ []) (field (w .no)) (field (w .mem)) (field (w .usable)) (field top) (10 ∷ []))

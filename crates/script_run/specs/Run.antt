@@ -4,7 +4,7 @@ use mathlib.Core.Bool.{Bool, true, false}
 use mathlib.Core.Path.{_≡_}
 use Prim.Native.Nat.{ℕ, _+_, _≤_}
 use lib.Dec.{eqb, ltb}
-use lib.ListN.{length, take, drop}
+use lib.ListN.{length, take, drop, replicate}
 use Rattle.le.specs.Number.{number}
 use Rattle.machine.specs.Calls.{After, after, openCall, grantCall, releaseCall, resizeCall, settleCall}
 use Rattle.machine.specs.declared.Answer.the-variants.{Done}
@@ -23,6 +23,17 @@ pub data Run : Type 0 where
 -- what a step leaves, and what it prints
 pub data Step : Type 0 where
   step : Run → List ℕ → Step
+
+-- a step with what was printed before it in front; and a step, then another from the state that it leaves
+abbrev pub behind : List ℕ → Step → Step
+behind p (step s o) = step s (p ++ o)
+
+abbrev pub andOn : Step → (Run → Step) → Step
+andOn (step s o) f = behind o (f s)
+
+-- before the first line nothing is open; lent bytes and record are zeros
+abbrev pub beforeAll : Run
+beforeAll = run (replicate 49152 0) (replicate 1572 0) [] 0 0 false
 
 -- ---- the call of a line
 abbrev pub lineCall : List ℕ → List ℕ → Line → After
@@ -80,6 +91,11 @@ byteStep b (run a r t k n false) = elim (eqb b newline) [
   | false ↦ step (run a r (take keptBytes (t ++ (b ∷ []))) k n false) []
 ]
 
+-- the bytes of a piece of the script, one after the other
+unfoldable pub pieceStep : List ℕ → Run → Step
+pieceStep [] s = step s []
+pieceStep (b ∷ t) s = andOn (byteStep b s) (pieceStep t)
+
 -- a last line without its newline has at least one byte
 unfoldable pub endStep : Run → Step
 endStep (run a r t k n true) = step (run a r t k n true) []
@@ -90,13 +106,12 @@ endStep (run a r (b ∷ t) k n false) = lineStep (run a r (b ∷ t) k n false)
 abbrev pub runOf : List ℕ → List ℕ → Log → Run
 runOf a r s = run a r (kept (s .text)) (s .lines) (s .opened) (s .ended)
 
--- ---- what the steps ask of the lent bytes: room for the longest arena, a record, room for the longest line of output
-pub record Buffers (a r o : List ℕ) : Type 0 where
+-- ---- what the steps ask of the lent bytes: room for the longest arena, and a record
+pub record Buffers (a r : List ℕ) : Type 0 where
   pub arenaRoom : length a ≡ 49152
   pub recordRoom : length r ≡ 1572
-  pub lineRoom : length o ≡ 86
 
--- and of a state and the output after a step
-pub record Within (s : Log) (o : List ℕ) : Type 0 where
+-- a state whose arena fits, and that has printed at most so many bytes
+pub record Within (s : Log) (n : ℕ) : Type 0 where
   pub opens : s .opened ≤ 49152
-  pub prints : s .printed ≤ length o
+  pub prints : s .printed ≤ n

@@ -1,21 +1,52 @@
-// What a line, a byte and the end of the script do: each is a step of specs/Run.antt on the same bytes. Assumes nothing.
+// What a line, a byte, a piece and the end of the script do: each is a step of specs/Run.antt on the same bytes. Assumes nothing.
 ghost use mathlib.Core.Path.{_≡_};
-ghost use Prim.Native.Nat.{_+_, _≤_};
-ghost use lib.ListN.{length, take};
+ghost use Prim.Native.Nat.{_+_, _*_, _≤_};
+ghost use lib.ListN.{length, take, replicate};
+ghost use Rattle.script_format.specs.Format.{header};
 ghost use Rattle.machine.specs.Calls.{after};
-ghost use Rattle.script_run.specs.Run.{step, lineCall, called, lengthOf, topAfter, counted, ranStep, lineStep, byteStep, endStep, runOf, Buffers, Within};
+ghost use Rattle.script_run.specs.Run.{step, behind, beforeAll, lineCall, called, lengthOf, topAfter, counted, ranStep, lineStep, byteStep, pieceStep, endStep, runOf, Buffers, Within};
 use machine::Answer;
 use script::Line;
 use script::LineText;
 
 // A run between two bytes: the line that is being read, how many lines were run, how long the opened arena is, whether the run has ended, and how many
-// bytes of the output buffer the last step printed.
+// bytes it has printed: so many stand in the output buffer, and a step prints behind them.
 pub struct Log {
     pub text: LineText,
     pub lines: u64,
     pub opened: usize,
     pub ended: bool,
     pub printed: usize,
+}
+
+fn clear(bytes: &mut [u8])
+    ensures { λ _. ⌜ now (bytes .exit) ≡ replicate (length (now (bytes .entry))) 0 ⌝ }
+{
+    let mut i = 0;
+    while i < bytes.len() {
+        bytes[i] = 0;
+        i += 1;
+    }
+}
+
+// Before the first line: the header is printed, and nothing is open.
+pub fn begin(arena: &mut [u8], control: &mut [u8], out: &mut [u8]) -> Log
+    requires { ⌜ Buffers (now arena) (now control) ⌝ }
+    requires { ⌜ 22 ≤ length (now out) ⌝ }
+    ensures { λ s. ⌜ step (runOf (now (arena .exit)) (now (control .exit)) s) (take (s .printed) (now (out .exit))) ≡ step beforeAll header ⌝ }
+    ensures { λ s. ⌜ Within s 22 ⌝ }
+{
+    clear(arena);
+    clear(control);
+    let printed = script_format::put_header(out, 0);
+    let text = script_reader::no_bytes();
+    Log {
+        text,
+        lines: 0,
+        opened: 0,
+        ended: false,
+        printed,
+    }
 }
 
 // The call of a line, on the arena that it opens or that was opened.
@@ -89,21 +120,23 @@ fn run_placed(
     k: u64,
     n: usize,
     line: Line,
+    at: usize,
     arena: &mut [u8],
     control: &mut [u8],
     out: &mut [u8],
 ) -> Log
-    requires { ⌜ Buffers (now arena) (now control) (now out) ⌝ }
+    requires { ⌜ Buffers (now arena) (now control) ⌝ }
     requires { ⌜ n ≤ 49152 ⌝ }
+    requires { ⌜ at + 86 ≤ length (now out) ⌝ }
     ensures { λ s. ⌜ step (runOf (now (arena .exit)) (now (control .exit)) s) (take (s .printed) (now (out .exit)))
-        ≡ ranStep line k n (called (now (arena .entry)) (now (control .entry)) n line) ⌝ }
-    ensures { λ s. ⌜ Within s (now (out .exit)) ⌝ }
+        ≡ behind (take at (now (out .entry))) (ranStep line k n (called (now (arena .entry)) (now (control .entry)) n line)) ⌝ }
+    ensures { λ s. ⌜ Within s (at + 86) ⌝ }
 {
     let x = call_within(arena, control, n, line);
     let ended = script::ends_by(line, x);
     let top = top_after(ended, control);
     let letter = script::letter_of(line);
-    let printed = script_format::put_answer(out, letter, x, top);
+    let printed = script_format::put_answer(out, at, letter, x, top);
     let text = script_reader::no_bytes();
     Log {
         text,
@@ -116,21 +149,23 @@ fn run_placed(
 
 // Runs the line that was read; one that is not in its place prints `? k` and ends the run.
 fn run_line(log: Log, arena: &mut [u8], control: &mut [u8], out: &mut [u8]) -> Log
-    requires { ⌜ Buffers (now arena) (now control) (now out) ⌝ }
+    requires { ⌜ Buffers (now arena) (now control) ⌝ }
     requires { ⌜ log .opened ≤ 49152 ⌝ }
+    requires { ⌜ log .printed + 86 ≤ length (now out) ⌝ }
     ensures { λ s. ⌜ step (runOf (now (arena .exit)) (now (control .exit)) s) (take (s .printed) (now (out .exit)))
-        ≡ lineStep (runOf (now (arena .entry)) (now (control .entry)) log) ⌝ }
-    ensures { λ s. ⌜ Within s (now (out .exit)) ⌝ }
+        ≡ behind (take (log .printed) (now (out .entry))) (lineStep (runOf (now (arena .entry)) (now (control .entry)) log)) ⌝ }
+    ensures { λ s. ⌜ Within s (log .printed + 86) ⌝ }
 {
     let k = count(log.lines);
     let opened = log.opened;
+    let at = log.printed;
     let read = log.text;
     let line = script_reader::line_read(read);
     if script::in_place(k, line) {
         let n = length_of(line, opened);
-        return run_placed(k, n, line, arena, control, out);
+        return run_placed(k, n, line, at, arena, control, out);
     }
-    let printed = script_format::put_question(out, k);
+    let printed = script_format::put_question(out, at, k);
     let text = script_reader::no_bytes();
     Log {
         text,
@@ -143,11 +178,12 @@ fn run_line(log: Log, arena: &mut [u8], control: &mut [u8], out: &mut [u8]) -> L
 
 // One byte of the script. Nothing follows the end of the run.
 pub fn feed(log: Log, b: u8, arena: &mut [u8], control: &mut [u8], out: &mut [u8]) -> Log
-    requires { ⌜ Buffers (now arena) (now control) (now out) ⌝ }
+    requires { ⌜ Buffers (now arena) (now control) ⌝ }
     requires { ⌜ log .opened ≤ 49152 ⌝ }
+    requires { ⌜ log .printed + 86 ≤ length (now out) ⌝ }
     ensures { λ s. ⌜ step (runOf (now (arena .exit)) (now (control .exit)) s) (take (s .printed) (now (out .exit)))
-        ≡ byteStep b (runOf (now (arena .entry)) (now (control .entry)) log) ⌝ }
-    ensures { λ s. ⌜ Within s (now (out .exit)) ⌝ }
+        ≡ behind (take (log .printed) (now (out .entry))) (byteStep b (runOf (now (arena .entry)) (now (control .entry)) log)) ⌝ }
+    ensures { λ s. ⌜ Within s (log .printed + 86) ⌝ }
 {
     let ended = log.ended;
     let read = log.text;
@@ -157,7 +193,7 @@ pub fn feed(log: Log, b: u8, arena: &mut [u8], control: &mut [u8], out: &mut [u8
             lines: log.lines,
             opened: log.opened,
             ended,
-            printed: 0,
+            printed: log.printed,
         };
     }
     if b == b'\n' {
@@ -169,17 +205,41 @@ pub fn feed(log: Log, b: u8, arena: &mut [u8], control: &mut [u8], out: &mut [u8
         lines: log.lines,
         opened: log.opened,
         ended,
-        printed: 0,
+        printed: log.printed,
     }
+}
+
+// The bytes of a piece of the script, one after the other.
+pub fn feed_piece(
+    mut log: Log,
+    piece: &[u8],
+    arena: &mut [u8],
+    control: &mut [u8],
+    out: &mut [u8],
+) -> Log
+    requires { ⌜ Buffers (now arena) (now control) ⌝ }
+    requires { ⌜ log .opened ≤ 49152 ⌝ }
+    requires { ⌜ log .printed + 86 * length (now piece) ≤ length (now out) ⌝ }
+    ensures { λ s. ⌜ step (runOf (now (arena .exit)) (now (control .exit)) s) (take (s .printed) (now (out .exit)))
+        ≡ behind (take (log .printed) (now (out .entry))) (pieceStep (now (piece .entry)) (runOf (now (arena .entry)) (now (control .entry)) log)) ⌝ }
+    ensures { λ s. ⌜ Within s (length (now (out .exit))) ⌝ }
+{
+    let mut i = 0;
+    while i < piece.len() {
+        log = feed(log, piece[i], arena, control, out);
+        i += 1;
+    }
+    log
 }
 
 // The end of the script: a last line without its newline.
 pub fn finish(log: Log, arena: &mut [u8], control: &mut [u8], out: &mut [u8]) -> Log
-    requires { ⌜ Buffers (now arena) (now control) (now out) ⌝ }
+    requires { ⌜ Buffers (now arena) (now control) ⌝ }
     requires { ⌜ log .opened ≤ 49152 ⌝ }
+    requires { ⌜ log .printed + 86 ≤ length (now out) ⌝ }
     ensures { λ s. ⌜ step (runOf (now (arena .exit)) (now (control .exit)) s) (take (s .printed) (now (out .exit)))
-        ≡ endStep (runOf (now (arena .entry)) (now (control .entry)) log) ⌝ }
-    ensures { λ s. ⌜ Within s (now (out .exit)) ⌝ }
+        ≡ behind (take (log .printed) (now (out .entry))) (endStep (runOf (now (arena .entry)) (now (control .entry)) log)) ⌝ }
+    ensures { λ s. ⌜ Within s (log .printed + 86) ⌝ }
 {
     let ended = log.ended;
     let text = log.text;
@@ -190,7 +250,7 @@ pub fn finish(log: Log, arena: &mut [u8], control: &mut [u8], out: &mut [u8]) ->
             lines: log.lines,
             opened: log.opened,
             ended,
-            printed: 0,
+            printed: log.printed,
         };
     }
     if len == 0 {
@@ -199,7 +259,7 @@ pub fn finish(log: Log, arena: &mut [u8], control: &mut [u8], out: &mut [u8]) ->
             lines: log.lines,
             opened: log.opened,
             ended,
-            printed: 0,
+            printed: log.printed,
         };
     }
     run_line(log, arena, control, out)

@@ -17,7 +17,7 @@ use Rattle.sound.specs.Relation.{Mem, Loose, Good}
 use Rattle.sound.specs.Tiles.{lt-or-le, tiled-split, start}
 use Rattle.sound.specs.Frames.{starts-all, apply-length, Within, outside}
 use Rattle.sound.specs.Edits.{tiled-tiles, size-16, size-32}
-use Rattle.sound.specs.Spares.{Spares, clear-of, chunks-apart}
+use Rattle.sound.specs.Spares.{Spares, Past, clear-of, chunks-apart}
 use Rattle.sound.specs.Usable.{agrees-mem}
 use Rattle.sound.specs.Moves.{one, any, Moved, one-not}
 
@@ -45,6 +45,10 @@ copies-word i d c (suc n) w (suc j) l far h =
 within-spares : (x s lo hi : ℕ) (ws : List Write) → Within lo hi ws → (hi ≤ x / 8 + 2) ⊎ ((x + s) / 8 < lo) → Spares x s ws
 within-spares x s lo hi [] k d = tt
 within-spares x s lo hi (e ∷ ws) k d = (⊎-elim (λ q. inl (omega (arith, k .1))) (λ q. inr (omega (arith, k .0))) d, within-spares x s lo hi ws (k .2) d)
+
+within-past : (lo hi : ℕ) (ws : List Write) → 1 ≤ lo → Within lo hi ws → Past ws
+within-past lo hi [] l k = tt
+within-past lo hi (e ∷ ws) l k = (omega (arith, k .0), within-past lo hi ws l (k .2))
 
 -- ---- c's usable words go to d, a larger block
 module _ (h : Heap) (v : List ℕ) (c d : ℕ) (g : Good h) (k : Mem h v) (lc : Loose h c) (ld : Loose h d) (ne : d ≡ c → ⊥) (room : sizeOf h c ≤ sizeOf h d) where
@@ -92,6 +96,7 @@ module _ (h : Heap) (v : List ℕ) (c d : ℕ) (g : Good h) (k : Mem h v) (lc : 
         (⊎-elim (λ l. inr (omega (arith, X .even, X .size16, D .even)))
         (λ l. inl (omega (arith, D .even, D .size16, X .even, C .size16, C .size32)))
         (chunks-apart h x d (g .shape) (X .here) (D .here) (one-not d x z)));
+    past = within-past (d / 8 + 2) (d / 8 + 2 + n) cs (omega arith) in-d;
   }
 
   pub copied : (i : ℕ) → 2 ≤ i → i ≤ sizeOf h c / 8 → getD (apply cs v) (d / 8 + i) 0 ≡ getD v (c / 8 + i) 0

@@ -38,7 +38,7 @@ next-moved h a t r n G =
     let f : tiled a × tiled (t ∷ r) = tiled-split a (t ∷ r) (subst tiled (G .tiles) (tiled-tiles h (G .shape))) in
     let en : next h c ≡ c + t .size = ap (λ (z : ℕ). c + z) (size-at h a r t (G .tiles) (f .0)) in
     ⊎-elim
-    (λ z. moved-by (next-no c h (ap (binned h) en ∙ z)) (record { count = λ x. omega arith; same = λ x lo y. refl; spare = λ x lo y. tt }))
+    (λ z. moved-by (next-no c h (ap (binned h) en ∙ z)) (record { count = λ x. omega arith; same = λ x lo y. refl; spare = λ x lo y. tt; past = tt }))
     (λ z. moved-by (next-yes c (c + t .size) h en z) (yes r G z))
     (zero-or (binned h (c + t .size)))
   where

@@ -108,5 +108,5 @@ module _ (b : ℕ) (b16 : b % 16 ≡ 0) (b32 : 32 ≤ b) (h : Heap) (w : List �
       (λ e.
       let E = top-ends h w b g m b16 b32 (leb-true (b + 32) (topSize h) e) in
       let M = cut-top-moved h b (g .shape) b16 b32 (E .now .0 .shape) in
-      record { mem = E .mem; now = (E .now .0, omega (arith, E .now .1)); moved = record { count = M .count; same = M .same; spare = M .spare } })
+      record { mem = E .mem; now = (E .now .0, omega (arith, E .now .1)); moved = record { count = M .count; same = M .same; spare = M .spare; past = M .past } })
       (λ e. found-nothing b h w g m)

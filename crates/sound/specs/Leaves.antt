@@ -86,6 +86,7 @@ leaves-widen {r = r} l e c = record {
     count = λ x. omega (arith, l .moved .count x, e (answerOf r) x);
     same = λ x lo z. l .moved .same x lo (c x z);
     spare = λ x lo z. l .moved .spare x lo (c x z);
+    past = l .moved .past;
   };
 }
 
@@ -134,5 +135,5 @@ found-nothing b h w g m = record {
   mem = m;
   now = (g, still-here Cached h);
   moved =
-      record { count = λ x. omega arith; same = λ x lo z. refl; spare = λ x lo z. tt };
+      record { count = λ x. omega arith; same = λ x lo z. refl; spare = λ x lo z. tt; past = tt };
 }

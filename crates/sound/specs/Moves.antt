@@ -1,5 +1,5 @@
--- What a step does to the loose chunks: which come and which go, counted; the others keep their sizes, and none of their usable words is written. Steps
--- follow one another by adding the counts. Here the primitives, each by its edit. Assumes nothing.
+-- What a step does to the loose chunks: which come and which go, counted; the others keep their sizes, and none of their usable words is written,
+-- nor the arena's first word. Steps follow one another by adding the counts. Here the primitives, each by its edit. Assumes nothing.
 use mathlib.Core.Path.{_≡_, refl, sym, ap, _∙_, subst}
 use mathlib.Core.List.{List, [], _∷_, _++_, append-nil}
 use mathlib.Core.Logic.{inl, inr, ⊎-elim}
@@ -8,7 +8,7 @@ use native.Mathlib.Omega.{arith}
 use lib.Dec.{eqb}
 use lib.ListN.{length}
 use Rattle.sizes.specs.Limits.{none64}
-use Rattle.machine.specs.Lists.{hd, tl, ind, cnt}
+use Rattle.machine.specs.Lists.{hd, lst, tl, pre, post, ind, cnt}
 use Rattle.machine.specs.Count.{eq?, ind-same, ind-other, cnt-here, cntAll-set}
 use Rattle.machine.specs.Heap.{Tile, tile, Heap, stack, bin, withTiles, endFrom, startsFrom, topOf, starts, sizeOf, next, total}
 use Rattle.machine.specs.Writes.{Write, Ran, heapOf, writes, does, giving, more, _>>=_, size, note, link, ran}
@@ -16,10 +16,10 @@ use Rattle.machine.specs.Primitives.{push, pop, linkIn, unlink, swallow, clearP
 use Rattle.sound.specs.Relation.{tiled, Shape, Loose}
 use Rattle.sound.specs.Tiles.{tiled-split, starts-append, starts-once}
 use Rattle.sound.specs.Frames.{starts-all}
-use Rattle.sound.specs.Edits.{size-at, snoc-end, same-starts, tiled-tiles, swallow-is, clear-is, set-is, note-is, cut-is, to-top-is, widen-is, trim-is, grow-is}
+use Rattle.sound.specs.Edits.{size-at, size-32, snoc-end, same-starts, tiled-tiles, swallow-is, clear-is, set-is, note-is, cut-is, to-top-is, widen-is, trim-is, grow-is}
 use Rattle.sound.specs.Homes.{sizes-at}
 use Rattle.sound.specs.Join.{binned-unlink, binned-link}
-use Rattle.sound.specs.Spares.{Spares, spares-append, spare-links, unlink-spares, link-spares, spare-size, spare-note}
+use Rattle.sound.specs.Spares.{Spares, Past, past-append, past-ends, spares-append, spare-links, unlink-spares, link-spares, spare-size, spare-note}
 
 abbrev pub answerOf : {A : Type 0} → Ran A → A
 answerOf (ran h ws a) = a
@@ -39,6 +39,7 @@ pub record Moved {A : Type 0} (h : Heap) (r : Ran A) (i : A → ℕ → ℕ) (o 
   pub count : (x : ℕ) → cnt x (starts (heapOf r)) + total x h + o x ≡ cnt x (starts h) + total x (heapOf r) + i (answerOf r) x
   pub same : (x : ℕ) → Loose h x → o x ≡ 0 → sizeOf (heapOf r) x ≡ sizeOf h x
   pub spare : (x : ℕ) → Loose h x → o x ≡ 0 → Spares x (sizeOf h x) (writes r)
+  pub past : Past (writes r)
 
 pub one-not : (c x : ℕ) → one c x ≡ 0 → x ≡ c → ⊥
 one-not c x e q = omega (arith, ap (λ (y : ℕ). ind (eqb y c)) q, ind-same c)
@@ -65,6 +66,7 @@ moved-more {h = h} {ws = ws} {r = ran h₂ vs b} m n e c = record {
       let k = c x lo z in
       spares-append x (sizeOf h x) ws vs (m .spare x lo (k .0))
       (subst (λ (n : ℕ). Spares x n vs) (m .same x lo (k .0)) (n .spare x (moved-keeps m x lo (k .0)) (k .1)));
+  past = past-append ws vs (m .past) (n .past);
 }
 
 pub moved-then : {A B : Type 0} {h : Heap} {r : Ran A} (f : Heap → Ran B) {i₁ : A → ℕ → ℕ} {i₂ i : B → ℕ → ℕ} {o₁ o₂ o : ℕ → ℕ}
@@ -75,16 +77,16 @@ moved-then {r = ran h₁ ws a} f m n e c = moved-more m n e c
 
 pub moved-giving : {A B : Type 0} {h : Heap} (b : B) {r : Ran A} {i : A → ℕ → ℕ} {j : B → ℕ → ℕ} {o : ℕ → ℕ}
     → ((x : ℕ) → j b x ≡ i (answerOf r) x) → Moved h r i o → Moved h (giving b r) j o
-moved-giving b {r = ran g ws a} e m = record { count = λ x. omega (arith, m .count x, e x); same = m .same; spare = m .spare }
+moved-giving b {r = ran g ws a} e m = record { count = λ x. omega (arith, m .count x, e x); same = m .same; spare = m .spare; past = m .past }
 
 pub moved-by : {A : Type 0} {h : Heap} {r r′ : Ran A} {i : A → ℕ → ℕ} {o : ℕ → ℕ} → r ≡ r′ → Moved h r′ i o → Moved h r i o
 moved-by {A} {h} {i = i} {o = o} e m = subst (λ (r : Ran A). Moved h r i o) (sym e) m
 
 pub moved-none : {A : Type 0} (h : Heap) (a : A) → Moved h (ran h [] a) (any nil) nil
-moved-none h a = record { count = λ x. omega arith; same = λ x lo z. refl; spare = λ x lo z. tt }
+moved-none h a = record { count = λ x. omega arith; same = λ x lo z. refl; spare = λ x lo z. tt; past = tt }
 
 pub remainder-moved : (h : Heap) (c : ℕ) → Moved h (setRemainder c h) (any nil) nil
-remainder-moved h c = record { count = λ x. omega arith; same = λ x lo z. refl; spare = λ x lo z. tt }
+remainder-moved h c = record { count = λ x. omega arith; same = λ x lo z. refl; spare = λ x lo z. tt; past = tt }
 
 -- ---- lists
 pub unlink-moved : (h : Heap) (j q : ℕ) → Shape h → 1 ≤ cnt q (bin h j) → Moved h (unlink j q h) (any (one q)) nil
@@ -92,6 +94,7 @@ unlink-moved h j q s m = record {
   count = λ x. omega (arith, binned-unlink h j q x m);
   same = λ x lo z. refl;
   spare = λ x lo z. unlink-spares h j q x s lo m;
+  past = past-ends (pre q (bin h j)) (post q (bin h j)) (hd none64 (post q (bin h j))) (lst none64 (pre q (bin h j)));
 }
 
 pub link-moved : (h : Heap) (j c : ℕ) (xs ys : List ℕ) → Shape h → j < length (h .bins) → Loose h c → bin h j ≡ xs ++ ys
@@ -100,6 +103,7 @@ link-moved h j c xs ys s hj lc e = record {
   count = λ x. omega (arith, binned-link h j c x xs ys hj e);
   same = λ x lo z. refl;
   spare = λ x lo z. link-spares h j c x xs ys s lo lc (one-not c x z) e;
+  past = (omega arith, (omega arith, past-ends xs ys c c));
 }
 
 pub push-moved : (h : Heap) (k c : ℕ) → Shape h → k < 74 → Loose h c → Moved h (push k c h) (any nil) (one c)
@@ -109,6 +113,7 @@ push-moved h k c s hk lc = record {
   spare = λ x lo z. spare-links h x (c ∷ []) (link c (hd none64 (stack h k)) ∷ []) s (omega arith)
       (λ y i. ⊎-elim (λ q. rw q (omega (arith, starts-all h c))) (λ q. absurd (omega (arith, ind-other y c q))) (eq? y c))
       (omega arith) (omega arith, cnt-here c [], tt);
+  past = (omega arith, tt);
 }
 
 pub pop-moved : (h : Heap) (k c : ℕ) (l : List ℕ) → Shape h → k < 74 → stack h k ≡ c ∷ l → Moved h (pop k h) (any (one c)) nil
@@ -116,6 +121,7 @@ pop-moved h k c l s hk e = record {
   count = λ x. omega (arith, cntAll-set x (h .stacks) k (tl (stack h k)) (omega (arith, s .stacked74)), ap (cnt x) e, ap (λ (z : List ℕ). cnt x (tl z)) e);
   same = λ x lo z. refl;
   spare = λ x lo z. tt;
+  past = tt;
 }
 
 -- ---- tiles: the chunk at the end of a takes in the next one
@@ -144,6 +150,7 @@ module _ (h : Heap) (a z : List Tile) (t u : Tile) (e : h .tiles ≡ a ++ t ∷ 
             (omega (arith, f .1 .0, f .1 .3 .0), omega (arith, f .1 .1), p1, tt) e refl (inl (omega arith)) (omega arith) (omega arith);
         spare = λ x lo y. spare-size h x c (t .size + u .size) p s lo
             (omega (arith, starts-all h c, ap (λ (l : List Tile). cnt c (startsFrom 0 l)) e, starts-append 0 a (t ∷ u ∷ z) c, ind-same c));
+        past = (omega arith, tt);
       }
 
   pub swallow-moved : Moved h (swallow (endFrom 0 a) h) (any (one (endFrom 0 a))) (λ x. one (endFrom 0 a) x + one (endFrom 0 a + t .size) x)
@@ -179,6 +186,7 @@ module _ (h : Heap) (a z : List Tile) (u : Tile) (e : h .tiles ≡ a ++ u ∷ z)
         count = λ x. omega (arith, same-starts h a z u U e refl x);
         same = λ x lo y. same-size U refl (omega arith) x (omega arith);
         spare = λ x lo y. spare-size h x c (u .size) 1 s lo (omega (arith, starts-all h c));
+        past = (omega arith, tt);
       })
 
   -- the note lies at the end of the chunk d before u
@@ -192,6 +200,7 @@ module _ (h : Heap) (a z : List Tile) (u : Tile) (e : h .tiles ≡ a ++ u ∷ z)
         same = λ x lo y. same-size U refl (fu .1 .2) x (omega arith);
         spare = λ x lo y. subst (λ (o : ℕ). Spares x (sizeOf h x) (note o m ∷ [])) nd
             (spare-note h x d m s lo (one-not d x y) md (rw nd (omega (arith, starts-all h c))));
+        past = (omega (arith, nd, size-32 h d s md), tt);
       })
 
   pub clear-moved : (d m : ℕ) → 1 ≤ cnt d (starts h) → next h d ≡ endFrom 0 a → Moved h (clearP (endFrom 0 a) m h) (any (one d)) (one d)
@@ -206,6 +215,7 @@ module _ (h : Heap) (a z : List Tile) (u : Tile) (e : h .tiles ≡ a ++ u ∷ z)
           spare-size h x c (u .size) 0 s lo (omega (arith, starts-all h c)) .0,
           subst (λ (o : ℕ). Spares x (sizeOf h x) (note o m ∷ [])) nd (spare-note h x d m s lo (one-not d x y) md (rw nd (omega (arith, starts-all h c)))),
         );
+        past = (omega arith, (omega (arith, nd, size-32 h d s md), tt));
       })
 
   parts-moved : (p n : ℕ) → p ≤ 1 → (b : ℕ) → b % 16 ≡ 0 → 32 ≤ b → b + 32 ≤ u .size → Shape (withTiles (a ++ tile b p n ∷ tile (u .size - b) 1 0 ∷ z) h)
@@ -239,6 +249,7 @@ module _ (h : Heap) (a z : List Tile) (u : Tile) (e : h .tiles ≡ a ++ u ∷ z)
               subst (λ (n : ℕ). Spares x n (size (c + b) (u .size - b) 1 ∷ [])) (sz x lo y)
                   (spare-size h₁ x (c + b) (u .size - b) 1 s₁ lo₁ (omega (arith, starts-all h₁ (c + b), cs (c + b), ind-same (c + b)))),
             );
+        past = (omega arith, (omega arith, tt));
       }
 
   pub cut-moved : (b : ℕ) → b % 16 ≡ 0 → 32 ≤ b → b + 32 ≤ u .size → Shape (withTiles (a ++ tile b 1 0 ∷ tile (u .size - b) 1 0 ∷ z) h)
@@ -258,6 +269,7 @@ to-top-moved h a t e s =
       same = λ x lo y. sizes-at h a a (t ∷ []) [] [] x (tiled-tiles h s) tt e (sym (append-nil a)) (inr refl) (omega arith) (omega arith);
       spare = λ x lo y. spare-size h x c (h .len - c) 1 s lo
           (omega (arith, starts-all h c, ap (λ (l : List Tile). cnt c (startsFrom 0 l)) e, starts-append 0 a (t ∷ []) c, ind-same c));
+      past = (omega arith, tt);
     })
 
 pub cut-top-moved : (h : Heap) (b : ℕ) → Shape h → b % 16 ≡ 0 → 32 ≤ b → Shape (withTiles (h .tiles ++ tile b 1 0 ∷ []) h)
@@ -280,6 +292,7 @@ cut-top-moved h b s b16 b32 s₁ =
                 (spare-size h₁ x (c + b) (h .len - (c + b)) 1 s₁ lo₁
                 (omega (arith, starts-all h₁ (c + b), ap (λ (o : ℕ). ind (eqb (c + b) o)) (snoc-end a (tile b 1 0)), ind-same (c + b)))),
           );
+      past = (omega arith, (omega arith, tt));
     }
 
 -- the last chunk takes from the top
@@ -305,4 +318,5 @@ grow-moved h a t b e s b16 b32 s₁ =
                 (spare-size h₁ x (c + b) (h .len - (c + b)) 1 s₁ lo₁
                 (omega (arith, starts-all h₁ (c + b), ap (λ (o : ℕ). ind (eqb (c + b) o)) (snoc-end a A), ind-same (c + b)))),
           );
+      past = (omega arith, (omega arith, tt));
     })

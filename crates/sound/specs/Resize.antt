@@ -85,9 +85,9 @@ module _ (h : Heap) (w : List ℕ) (c b : ℕ) (g : Good h) (lc : Loose h c) (b1
     leaves = record {
       mem = L .mem;
       now = L .now;
-      moved = record { count = λ x. omega (arith, L .moved .count x); same = λ x lo z. L .moved .same x lo refl; spare = λ x lo z. L .moved .spare x lo refl };
+      moved = record { count = λ x. omega (arith, L .moved .count x); same = λ x lo z. L .moved .same x lo refl; spare = λ x lo z. L .moved .spare x lo refl; past = L .moved .past };
     };
-    refused = λ e. record { count = λ x. omega (arith, L .moved .count x); same = L .moved .same; spare = L .moved .spare };
+    refused = λ e. record { count = λ x. omega (arith, L .moved .count x); same = L .moved .same; spare = L .moved .spare; past = L .moved .past };
     own = λ e. absurd (let z : _≡_ {A = ℕ} 0 1 = cc in omega arith);
     words = λ i l u v. spared c (sizeOf h c) ws w (c / 8 + i) (L .moved .spare c lc refl) (omega arith) (omega arith);
   }

@@ -3,13 +3,13 @@
 use mathlib.Core.Path.{_≡_, refl, sym, ap, _∙_}
 use mathlib.Core.List.{List, [], _∷_}
 use mathlib.Core.Logic.{⊎-elim}
-use mathlib.Core.Bool.{true}
+use mathlib.Core.Bool.{Bool, true, false}
 use Prim.Native.Nat.{ℕ, zero, suc, _/_, _%_, _≤_, _<_}
 use native.Mathlib.Omega.{arith}
 use lib.Dec.{ltb, leb}
 use lib.ListN.{length}
 use lib.Seq.{getD-set-same, getD-set-other}
-use borrow.Author.Tests.{ltb-true, leb-true}
+use borrow.Author.Tests.{ltb-true, leb-true, le-leb}
 use Rattle.sizes.specs.Limits.{mostCached, cacheRoom, mostFast, large, none64}
 use Rattle.sizes.specs.Sizes.{cacheOf, fastOf, binOf}
 use Rattle.sizes.specs.SizesLaws.{cacheOf-bound, fastOf-bound}
@@ -25,12 +25,12 @@ use Rattle.sound.specs.Tiles.{lt-or-le}
 use Rattle.sound.specs.Lists.{lst-in}
 use Rattle.sound.specs.Edits.{size-32, size-16}
 use Rattle.sound.specs.Stacks.{pop-ends}
-use Rattle.sound.specs.Moves.{nil, one, any, listed-not, pop-moved}
+use Rattle.sound.specs.Moves.{answerOf, nil, one, any, listed-not, pop-moved}
 use Rattle.sound.specs.Leaves.{Leaves, leaves-weaken, leaves-by, leaves-if, leaves-none, leaves-giving, leaves-next, leaves-then, leaves-size, gave, Still, Cached, Found, still-here, found-nothing}
 use Rattle.sound.specs.Release.{push-leaves, stackSize-cache, stackSize-fast, both-true}
 use Rattle.sound.specs.Settle.{consolidate-leaves}
 use Rattle.sound.specs.Take.{takeLast-leaves}
-use Rattle.machine.specs.declared.{Got.the-variants.At}
+use Rattle.machine.specs.declared.{Got.Got, Got.the-variants.At, Got.the-variants.Nothing}
 
 -- ---- a list that has a chunk
 pub some-has : (l : List ℕ) → some? l ≡ true → 1 ≤ cnt (lst none64 l) l
@@ -51,8 +51,21 @@ pop-found h w k b hk g m so eb = go (stack h k) refl
         (leaves-giving (At c)
         (record { mem = E .mem; now = (E .now, omega (arith, sz)); moved = pop-moved h k c l (g .shape) hk e }) (λ a x. refl) (λ a n p. p))
 
+-- ---- 1. the cache: a grant that passes it finds the cache list of its size empty
+none-has : (l : List ℕ) → some? l ≡ false → l ≡ []
+none-has [] e = refl
+none-has (x ∷ l) e = absurd (let z : _≡_ {A = ℕ} 0 1 = cc in omega arith)
+
+pub step1-passed-empty : (b : ℕ) (h : Heap) → b ≤ 1040 → answerOf (step1 b h) ≡ Nothing → cache h (cacheOf b) ≡ []
+unfolding step1
+step1-passed-empty b h l = go (both (leb b mostCached) (some? (cache h (cacheOf b)))) refl
+  where
+    go : (t : Bool) → both (leb b mostCached) (some? (cache h (cacheOf b))) ≡ t
+        → answerOf {A = Got} (elim t [ true ↦ pop (cacheOf b) h | false ↦ ran h [] Nothing ]) ≡ Nothing → cache h (cacheOf b) ≡ []
+    go true q e = absurd (let z : _≡_ {A = ℕ} 0 1 = cc in omega arith)
+    go false q e = none-has (cache h (cacheOf b)) (rw (le-leb b mostCached l) at q)
+
 module _ (b : ℕ) (b16 : b % 16 ≡ 0) (b32 : 32 ≤ b) where
-  -- ---- 1. the cache
   pub step1-leaves : (h : Heap) (w : List ℕ) → Good h → Mem h w → Leaves h w (step1 b h) (Found b h) gave nil
   unfolding step1
   step1-leaves h w g m = leaves-if (both (leb b mostCached) (some? (cache h (cacheOf b))))

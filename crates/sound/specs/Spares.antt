@@ -1,5 +1,5 @@
--- No usable word of a block is written: a statement about writes. A link lies in its own chunk, a size word before a chunk's usable words, and a note
--- at the end of the chunk before. Assumes nothing.
+-- No usable word of a block is written, and the arena's first word never is: statements about writes. A link lies in its own chunk, a size word before a
+-- chunk's usable words, and a note at the end of the chunk before. Assumes nothing.
 use mathlib.Core.Path.{_≡_, refl, sym, ap, _∙_, subst}
 use mathlib.Core.List.{List, [], _∷_, _++_, append-assoc}
 use mathlib.Core.Logic.{_⊎_, inl, inr, ⊎-elim}
@@ -45,6 +45,31 @@ spares-then {A} {B} (ran h ws a) f x s j k = go (f h) k
 pub spares-less : (x s m : ℕ) (ws : List Write) → m ≤ s → Spares x s ws → Spares x m ws
 spares-less x s m [] l k = tt
 spares-less x s m (e ∷ ws) l k = (⊎-elim (λ z. inl z) (λ z. inr (omega arith)) (k .0), spares-less x s m ws l (k .1))
+
+-- none of ws writes the first word
+abbrev pub Past : List Write → Type 0
+Past [] = Unit {0}
+Past (e ∷ ws) = (1 ≤ who e / 8 + field e) × Past ws
+
+pub past-first : (ws : List Write) (w : List ℕ) → Past ws → getD (apply ws w) 0 0 ≡ getD w 0 0
+past-first [] w k = refl
+past-first (e ∷ ws) w k = past-first ws (put e w) (k .1) ∙ getD-set-other w (who e / 8 + field e) 0 (value e w) 0 (λ q. omega (arith, k .0))
+
+pub past-append : (a b : List Write) → Past a → Past b → Past (a ++ b)
+past-append [] b j k = k
+past-append (e ∷ a) b j k = (j .0, past-append a b (j .1) k)
+
+-- of all fields only a note stands in a chunk's first word
+past-fwd : (xs : List ℕ) (c : ℕ) → Past (fwdTo xs c)
+past-fwd [] c = tt
+past-fwd (x ∷ xs) c = (omega arith, tt)
+
+past-back : (ys : List ℕ) (c : ℕ) → Past (backTo ys c)
+past-back [] c = tt
+past-back (y ∷ ys) c = (omega arith, tt)
+
+pub past-ends : (xs ys : List ℕ) (c d : ℕ) → Past (fwdTo xs c ++ backTo ys d)
+past-ends xs ys c d = past-append (fwdTo xs c) (backTo ys d) (past-fwd xs c) (past-back ys d)
 
 -- a chunk's start lies before x, is x, or lies after x's end
 pub clear-of : (h : Heap) (x y : ℕ) → Shape h → 1 ≤ cnt x (starts h) → 1 ≤ cnt y (Starts h)

@@ -63,7 +63,7 @@ module _ (b : ℕ) (b16 : b % 16 ≡ 0) (b32 : 32 ≤ b) where
       let top : stack (heapOf (pushCache (cacheOf b) c h)) (cacheOf b) ≡ c ∷ cache h (cacheOf b) =
       getD-set-same (h .stacks) (cacheOf b) (c ∷ cache h (cacheOf b)) [] (omega (arith, g .shape .stacked74)) in
       record { mem = L .mem; now = (L .now .0, ap some? top, le); moved = moved-giving T.Cached (λ x. refl) (L .moved) })
-      (λ e. record { mem = m; now = (g, omega arith); moved = record { count = λ x. omega arith; same = λ x l z. refl; spare = λ x l z. tt } })
+      (λ e. record { mem = m; now = (g, omega arith); moved = record { count = λ x. omega arith; same = λ x l z. refl; spare = λ x l z. tt; past = tt } })
 
   -- ---- the last of unsorted
   module _ (h : Heap) (w : List ℕ) (c : ℕ) (g : Good h) (m : Mem h w) (mc : 1 ≤ cnt c (bin h unsorted)) where
@@ -124,7 +124,7 @@ module _ (b : ℕ) (b16 : b % 16 ≡ 0) (b32 : 32 ≤ b) where
   unfolding turn
   turn-leaves h w g m = leaves-if (some? (bin h unsorted))
       (λ e. turnAt-leaves h w (lst none64 (bin h unsorted)) g m (some-has (bin h unsorted) e))
-      (λ e. record { mem = m; now = (g, still-here Every h); moved = record { count = λ x. omega arith; same = λ x l z. refl; spare = λ x l z. tt } })
+      (λ e. record { mem = m; now = (g, still-here Every h); moved = record { count = λ x. omega arith; same = λ x l z. refl; spare = λ x l z. tt; past = tt } })
 
   -- ---- the sweep. Once one was cached, the cache list has a head; until then the cache lists are those of the start, h₀
   abbrev pub Caching : Bool → Heap → Heap → Type 0
@@ -148,7 +148,7 @@ module _ (b : ℕ) (b16 : b % 16 ≡ 0) (b32 : 32 ≤ b) where
       → ((g : Heap) (v : List ℕ) → Mem g v → Turned b h T.Empty g → Leaves g v (over g) (Found b h₀) gave nil)
       → Leaves h w (afterTurn r kept sorted over) (Found b h₀) gave nil
   turn-then h₀ h w (ran h₁ ws (T.Granted c)) kept sorted over l k n o =
-      record { mem = l .mem; now = l .now; moved = record { count = l .moved .count; same = l .moved .same; spare = l .moved .spare } }
+      record { mem = l .mem; now = l .now; moved = record { count = l .moved .count; same = l .moved .same; spare = l .moved .spare; past = l .moved .past } }
   turn-then h₀ h w (ran h₁ ws T.Cached) kept sorted over l k n o = leaves-next kept (l .moved) (k h₁ (apply ws w) (l .mem) (l .now)) (λ b x. refl)
       (λ x lo z. (refl, refl))
   turn-then h₀ h w (ran h₁ ws T.Binned) kept sorted over l k n o = leaves-next sorted (l .moved) (n h₁ (apply ws w) (l .mem) (l .now)) (λ b x. refl)

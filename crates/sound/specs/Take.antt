@@ -128,7 +128,7 @@ pub remainder-leaves : (h : Heap) (w : List ℕ) (d : ℕ) (Q : Heap → Type 0)
 remainder-leaves h w d Q g m q = record {
   mem = remainder-mem h w d m;
   now = q (withRemainder d h) refl (remainder-good h d g);
-  moved = record { count = λ x. omega arith; same = λ x lo z. refl; spare = λ x lo z. tt };
+  moved = record { count = λ x. omega arith; same = λ x lo z. refl; spare = λ x lo z. tt; past = tt };
 }
 
 -- ---- taken whole

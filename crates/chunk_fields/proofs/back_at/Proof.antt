@@ -1,7 +1,9 @@
 -- `chunk_fields::back_at` meets its contract: the back link of a chunk stands 24 bytes, which is 3 words, behind its start. Assumes nothing.
-use mathlib.Core.Path.{_≡_}
+use mathlib.Core.Path.{_≡_, ap, _∙_}
 use Prim.Native.Nat.{_+_, _/_}
 use native.Mathlib.Omega.{arith}
+use lib.ListN.{getD}
+use Rattle.le.specs.Arena.{arenaWords}
 use borrow.Author.Needs.{needs}
 use Rattle.chunk_fields.proofs.back_at.Statement.{statement}
 use Rattle.chunk_fields.proofs.back_at.Tie as tie
@@ -16,7 +18,7 @@ returns : tie.Need-returns
 returns c =
     let a = c .before .before .before .args in
     let e : (a .c .0 + 24) / 8 ≡ a .c .0 / 8 + 3 = omega arith in
-    cc
+    c .word .ensures ∙ ap (λ k. getD (arenaWords (a .a .now)) k 0) e
 
 pub back-at-spec : {M : Type 1} → statement M
 back-at-spec = tie.close (tie.spec add-word word-requires returns)

@@ -1,7 +1,9 @@
 -- `chunk_fields::copy_usable_word` meets its contract: the word is read and written at the place that it has in each chunk. Assumes nothing.
-use mathlib.Core.Path.{_≡_}
+use mathlib.Core.Path.{_≡_, ap, _∙_}
 use Prim.Native.Nat.{_+_, _*_, _/_}
 use native.Mathlib.Omega.{arith}
+use lib.ListN.{set}
+use Rattle.le.specs.Arena.{arenaWords}
 use borrow.Author.Needs.{needs}
 use Rattle.chunk_fields.proofs.copy_usable_word.Statement.{statement}
 use Rattle.chunk_fields.proofs.copy_usable_word.Tie as tie
@@ -28,7 +30,9 @@ returns : tie.Need-returns
 returns c =
     let a = c .before .before .before .before .before .before .before .before .args in
     let e : (a .d .0 + 16 + 8 * a .i) / 8 ≡ a .d .0 / 8 + (2 + a .i) = omega arith in
-    cc
+    let w = arenaWords (a .a .now) in
+    let u = c .before .before .before .before .before in
+    c .before .before .set-word .ensures ∙ ap (λ k. set w k (u .usable-word-at .result)) e ∙ ap (set w (a .d .0 / 8 + (2 + a .i))) (u .usable-word-at .ensures)
 
 pub copy-usable-word-spec : {M : Type 1} → statement M
 copy-usable-word-spec = tie.close (tie.spec usable-word-at-requires add-set-word mul-set-word add-set-word-2 set-word-requires same-length returns)

@@ -1,7 +1,9 @@
 -- `chunk_fields::set_back` meets its contract: the back link of a chunk stands 24 bytes, which is 3 words, behind its start. Assumes nothing.
-use mathlib.Core.Path.{_≡_}
+use mathlib.Core.Path.{_≡_, ap, _∙_}
 use Prim.Native.Nat.{_+_, _/_}
 use native.Mathlib.Omega.{arith}
+use lib.ListN.{set}
+use Rattle.le.specs.Arena.{arenaWords}
 use borrow.Author.Needs.{needs}
 use Rattle.chunk_fields.proofs.set_back.Statement.{statement}
 use Rattle.chunk_fields.proofs.set_back.Tie as tie
@@ -19,7 +21,7 @@ returns : tie.Need-returns
 returns c =
     let a = c .before .before .before .before .before .before .args in
     let e : (a .c .0 + 24) / 8 ≡ a .c .0 / 8 + 3 = omega arith in
-    cc
+    c .before .before .set-word .ensures ∙ ap (λ k. set (arenaWords (a .a .now)) k (a .x .0)) e
 
 pub set-back-spec : {M : Type 1} → statement M
 set-back-spec = tie.close (tie.spec add-set-word set-word-requires same-length returns)

@@ -1,7 +1,9 @@
 -- `chunk_fields::set_size` meets its contract: the size word of a chunk stands 8 bytes, which is 1 words, behind its start. Assumes nothing.
-use mathlib.Core.Path.{_≡_}
+use mathlib.Core.Path.{_≡_, ap, _∙_}
 use Prim.Native.Nat.{_+_, _/_}
 use native.Mathlib.Omega.{arith}
+use lib.ListN.{set}
+use Rattle.le.specs.Arena.{arenaWords}
 use borrow.Author.Needs.{needs}
 use Rattle.chunk_fields.proofs.set_size.Statement.{statement}
 use Rattle.chunk_fields.proofs.set_size.Tie as tie
@@ -19,7 +21,9 @@ returns : tie.Need-returns
 returns c =
     let a = c .before .before .before .before .before .before .before .args in
     let e : (a .c .0 + 8) / 8 ≡ a .c .0 / 8 + 1 = omega arith in
-    cc
+    let w = arenaWords (a .a .now) in
+    let m = c .before .before .before .before .before in
+    c .before .before .set-word .ensures ∙ ap (λ k. set w k (m .make .result .0)) e ∙ ap (set w (a .c .0 / 8 + 1)) (m .make .ensures)
 
 make-requires : tie.Need-make-requires
 make-requires c κs = search needs

@@ -1,24 +1,39 @@
--- `heaplog::main` meets its contract: the loop's invariant: the lent bytes have their lengths, and the opened arena tiled; the measure is the number that falls. Assumes nothing.
+-- `heaplog::main` meets its contract: the loop's invariant: the lent bytes have their lengths, the opened arena fits, and nothing is left to write; the measure is the number
+-- that falls. Assumes nothing.
+use mathlib.Core.Path.{_≡_}
 use Prim.Native.Nat.{_≤_}
+use lib.ListN.{length}
 use borrow.Author.Needs.{needs}
 use Rattle.script_run.specs.Run.{Buffers}
 use Rattle.heaplog.proofs.main.Statement.{statement}
 use Rattle.heaplog.proofs.main.Tie as tie
 
 abbrev Inv-loop : tie.InvT-loop
-Inv-loop arena₀ control₀ out₀ log₀ left₀ arena control out log left = Buffers arena control out × (log .opened ≤ 49152)
+Inv-loop arena₀ control₀ out₀ log₀ left₀ arena control out log left = Buffers arena control × (length out ≡ 352256) × (log .opened ≤ 49152) × (log .printed ≡ 0)
 
 abbrev μ-loop : tie.MeasureT-loop
 μ-loop arena₀ control₀ out₀ log₀ left₀ arena control out log left = left
 
-slice-aggregate-write-all : tie.Need-slice-aggregate-write-all Inv-loop μ-loop
-slice-aggregate-write-all c = search needs
+out-buffer-requires : tie.Need-out-buffer-requires Inv-loop μ-loop
+out-buffer-requires c κs = search needs
 
-write-all-requires : tie.Need-write-all-requires Inv-loop μ-loop
-write-all-requires c κs = search needs
+slice-aggregate-begin : tie.Need-slice-aggregate-begin Inv-loop μ-loop
+slice-aggregate-begin c = search needs
 
-no-bytes-requires : tie.Need-no-bytes-requires Inv-loop μ-loop
-no-bytes-requires c κs = search needs
+slice-aggregate-begin-2 : tie.Need-slice-aggregate-begin-2 Inv-loop μ-loop
+slice-aggregate-begin-2 c = search needs
+
+slice-aggregate-begin-3 : tie.Need-slice-aggregate-begin-3 Inv-loop μ-loop
+slice-aggregate-begin-3 c = search needs
+
+begin-requires : tie.Need-begin-requires Inv-loop μ-loop
+begin-requires c κs = search needs
+
+slice-aggregate-write-printed : tie.Need-slice-aggregate-write-printed Inv-loop μ-loop
+slice-aggregate-write-printed c = search needs
+
+write-printed-requires : tie.Need-write-printed-requires Inv-loop μ-loop
+write-printed-requires c κs = search needs
 
 loop-holds : tie.Need-loop-holds Inv-loop μ-loop
 loop-holds c = search needs
@@ -59,9 +74,13 @@ main-spec =
     (tie.spec
     Inv-loop
     μ-loop
-    slice-aggregate-write-all
-    write-all-requires
-    no-bytes-requires
+    out-buffer-requires
+    slice-aggregate-begin
+    slice-aggregate-begin-2
+    slice-aggregate-begin-3
+    begin-requires
+    slice-aggregate-write-printed
+    write-printed-requires
     loop-holds
     slice-aggregate-turn
     slice-aggregate-turn-2

@@ -1,12 +1,10 @@
--- `heaplog::turn` meets its contract: what is printed tiled the output buffer. Assumes nothing.
-use mathlib.Core.Path.{sym}
-use lib.Seq.{length-take-le}
+-- `heaplog::turn` meets its contract: a piece has at most 4,096 bytes, so that what it prints fits the output buffer. Assumes nothing.
 use borrow.Author.Needs.{needs}
 use Rattle.heaplog.proofs.turn.Statement.{statement}
 use Rattle.heaplog.proofs.turn.Tie as tie
 
-large-buffer-requires : tie.Need-large-buffer-requires
-large-buffer-requires c κs = search needs
+buffer-requires : tie.Need-buffer-requires
+buffer-requires c κs = search needs
 
 slice-aggregate-read : tie.Need-slice-aggregate-read
 slice-aggregate-read c = search needs
@@ -23,14 +21,8 @@ count-requires c κs = search needs
 finish-requires : tie.Need-finish-requires
 finish-requires c κs = search needs
 
-slice-reshare-prefix-write-all : tie.Need-slice-reshare-prefix-write-all
-slice-reshare-prefix-write-all c = search needs
-
-slice-aggregate-write-all : tie.Need-slice-aggregate-write-all
-slice-aggregate-write-all c = sym (length-take-le _ _ (c .before .before .before .before .before .before .before .finish .ensures .1 .prints))
-
-write-all-requires : tie.Need-write-all-requires
-write-all-requires c κs = search needs
+write-printed-requires : tie.Need-write-printed-requires
+write-printed-requires c κs = search needs
 
 same-length : tie.Need-same-length
 same-length c = search needs
@@ -53,6 +45,9 @@ slice-aggregate-feed-piece c = search needs
 feed-piece-requires : tie.Need-feed-piece-requires
 feed-piece-requires c κs = search needs
 
+write-printed-requires-2 : tie.Need-write-printed-requires-2
+write-printed-requires-2 c κs = c .before .before .before .before .before .before .before .feed-piece .ensures .1 .prints
+
 same-length-4 : tie.Need-same-length-4
 same-length-4 c = search needs
 
@@ -69,15 +64,13 @@ pub turn-spec : {M : Type 1} → statement M
 turn-spec =
     tie.close
     (tie.spec
-    large-buffer-requires
+    buffer-requires
     slice-aggregate-read
     read-requires
     slice-aggregate-count
     count-requires
     finish-requires
-    slice-reshare-prefix-write-all
-    slice-aggregate-write-all
-    write-all-requires
+    write-printed-requires
     same-length
     same-length-2
     same-length-3
@@ -85,6 +78,7 @@ turn-spec =
     array-share-prefix-buf
     slice-aggregate-feed-piece
     feed-piece-requires
+    write-printed-requires-2
     same-length-4
     same-length-5
     same-length-6

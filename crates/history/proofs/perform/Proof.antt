@@ -1,5 +1,6 @@
--- `perform` is the machine's call: each kind by the proved call. Assumes nothing.
+-- `perform` is the machine's call: each kind by the exported call. Assumes nothing.
 use mathlib.Core.Path.{sym, ap, _∙_}
+use Rattle.heap.specs.Exported.{numbered}
 use Rattle.history.specs.declared.Call.{Call}
 use Rattle.history.specs.Performed.{callOf}
 use borrow.Author.Needs.{needs}
@@ -9,8 +10,8 @@ use Rattle.history.proofs.perform.Tie as tie
 enum-known-c : tie.Need-enum-known-c
 enum-known-c c = search needs
 
-grant-requires : tie.Need-grant-requires
-grant-requires c κs = search needs
+heap-grant-requires : tie.Need-heap-grant-requires
+heap-grant-requires c κs = search needs
 
 same-length : tie.Need-same-length
 same-length c = search needs
@@ -19,13 +20,13 @@ same-length-2 : tie.Need-same-length-2
 same-length-2 c = search needs
 
 returns : tie.Need-returns
-returns c = let s = c .before .before .before .before .before .before .before .before .before .before .before .before in c .before .before .before .before .grant .ensures ∙ ap (λ (x : Call). callOf x (s .args .arena .now) (s .args .control .now)) (sym (c .before .before .before .before .before .before .before .before .c .given .1))
+returns c = let s = c .before .before .before .before .before .before .before .before .before .before .before .before in c .before .before .before .before .heap-grant .ensures ∙ ap (λ (x : Call). numbered (callOf x (s .args .arena .now) (s .args .control .now))) (sym (c .before .before .before .before .before .before .before .before .c .given .1))
 
 enum-known-c-2 : tie.Need-enum-known-c-2
 enum-known-c-2 c = search needs
 
-release-requires : tie.Need-release-requires
-release-requires c κs = search needs
+heap-release-requires : tie.Need-heap-release-requires
+heap-release-requires c κs = search needs
 
 same-length-3 : tie.Need-same-length-3
 same-length-3 c = search needs
@@ -34,13 +35,13 @@ same-length-4 : tie.Need-same-length-4
 same-length-4 c = search needs
 
 returns-2 : tie.Need-returns-2
-returns-2 c = let s = c .before .before .before .before .before .before .before .before .before .before .before .before in c .before .before .before .before .release .ensures ∙ ap (λ (x : Call). callOf x (s .args .arena .now) (s .args .control .now)) (sym (c .before .before .before .before .before .before .before .before .c2 .given .1))
+returns-2 c = let s = c .before .before .before .before .before .before .before .before .before .before .before .before in c .before .before .before .before .heap-release .ensures ∙ ap (λ (x : Call). numbered (callOf x (s .args .arena .now) (s .args .control .now))) (sym (c .before .before .before .before .before .before .before .before .c2 .given .1))
 
 enum-known-c-3 : tie.Need-enum-known-c-3
 enum-known-c-3 c = search needs
 
-resize-requires : tie.Need-resize-requires
-resize-requires c κs = search needs
+heap-resize-requires : tie.Need-heap-resize-requires
+heap-resize-requires c κs = search needs
 
 same-length-5 : tie.Need-same-length-5
 same-length-5 c = search needs
@@ -49,13 +50,13 @@ same-length-6 : tie.Need-same-length-6
 same-length-6 c = search needs
 
 returns-3 : tie.Need-returns-3
-returns-3 c = let s = c .before .before .before .before .before .before .before .before .before .before .before .before in c .before .before .before .before .resize .ensures ∙ ap (λ (x : Call). callOf x (s .args .arena .now) (s .args .control .now)) (sym (c .before .before .before .before .before .before .before .before .c3 .given .1))
+returns-3 c = let s = c .before .before .before .before .before .before .before .before .before .before .before .before in c .before .before .before .before .heap-resize .ensures ∙ ap (λ (x : Call). numbered (callOf x (s .args .arena .now) (s .args .control .now))) (sym (c .before .before .before .before .before .before .before .before .c3 .given .1))
 
 enum-told : tie.Need-enum-told
 enum-told c = search needs
 
-settle-requires : tie.Need-settle-requires
-settle-requires c κs = search needs
+heap-settle-requires : tie.Need-heap-settle-requires
+heap-settle-requires c κs = search needs
 
 same-length-7 : tie.Need-same-length-7
 same-length-7 c = search needs
@@ -64,29 +65,29 @@ same-length-8 : tie.Need-same-length-8
 same-length-8 c = search needs
 
 returns-4 : tie.Need-returns-4
-returns-4 c = let s = c .before .before .before .before .before .before .before .before .before .before .before in c .before .before .before .before .settle .ensures ∙ ap (λ (x : Call). callOf x (s .args .arena .now) (s .args .control .now)) (sym (c .before .before .before .before .before .before .before .enum-told .given .1))
+returns-4 c = let s = c .before .before .before .before .before .before .before .before .before .before .before in c .before .before .before .before .heap-settle .ensures ∙ ap (λ (x : Call). numbered (callOf x (s .args .arena .now) (s .args .control .now))) (sym (c .before .before .before .before .before .before .before .enum-told .given .1))
 
 pub perform-spec : {M : Type 1} → statement M
 perform-spec =
     tie.close
     (tie.spec
     enum-known-c
-    grant-requires
+    heap-grant-requires
     same-length
     same-length-2
     returns
     enum-known-c-2
-    release-requires
+    heap-release-requires
     same-length-3
     same-length-4
     returns-2
     enum-known-c-3
-    resize-requires
+    heap-resize-requires
     same-length-5
     same-length-6
     returns-3
     enum-told
-    settle-requires
+    heap-settle-requires
     same-length-7
     same-length-8
     returns-4)

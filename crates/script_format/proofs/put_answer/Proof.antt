@@ -1,5 +1,6 @@
 -- `script_format::put_answer` meets its contract: six texts, one behind the other; 86 bytes are enough for any numbers. Assumes nothing.
 use native.Mathlib.Omega.{arith}
+use lib.ListN.{take}
 use borrow.Author.Needs.{needs}
 use Rattle.script_format.proofs.Writing.{call-written}
 use Rattle.script_format.proofs.put_answer.Statement.{statement}
@@ -55,7 +56,7 @@ returns c = (
     c .before .before .before .before .before .before .before .before .before .before .before .before .before .before .before .before .before .before .put-field .kept .0,
     c .before .before .before .before .before .before .before .before .before .before .before .before .before .before .before .before .before .before .before .before .before .before .put-byte .kept .0,
   ),
-  call-written _ _ _ (c .before .before .before .before .before .before .before .before .before .before .before .before .before .before .before .before .before .before .before .before .before .before .before .before .before .before .before .answer-numbers .ensures) (c .before .before .before .before .before .before .before .before .before .before .before .before .before .before .before .before .before .before .before .before .before .before .put-byte .ensures .1) (c .before .before .before .before .before .before .before .before .before .before .before .before .before .before .before .before .before .before .put-field .ensures .1) (c .before .before .before .before .before .before .before .before .before .before .before .before .before .before .put-field2 .ensures .1) (c .before .before .before .before .before .before .before .before .before .before .put-field3 .ensures .1) (c .before .before .before .before .before .before .put-field4 .ensures .1) (c .before .before .put-byte2 .ensures .1),
+  call-written (take (c .before .before .before .before .before .before .before .before .before .before .before .before .before .before .before .before .before .before .before .before .before .before .before .before .before .before .before .before .before .args .at) (c .before .before .before .before .before .before .before .before .before .before .before .before .before .before .before .before .before .before .before .before .before .before .before .before .before .before .before .before .before .args .out .now)) _ _ _ (c .before .before .before .before .before .before .before .before .before .before .before .before .before .before .before .before .before .before .before .before .before .before .before .before .before .before .before .answer-numbers .ensures) (c .before .before .before .before .before .before .before .before .before .before .before .before .before .before .before .before .before .before .before .before .before .before .put-byte .ensures .1) (c .before .before .before .before .before .before .before .before .before .before .before .before .before .before .before .before .before .before .put-field .ensures .1) (c .before .before .before .before .before .before .before .before .before .before .before .before .before .before .put-field2 .ensures .1) (c .before .before .before .before .before .before .before .before .before .before .put-field3 .ensures .1) (c .before .before .before .before .before .before .put-field4 .ensures .1) (c .before .before .put-byte2 .ensures .1),
 )
 
 pub put-answer-spec : {M : Type 1} → statement M

@@ -1,5 +1,6 @@
 -- `script_format::put_question` meets its contract: three texts, one behind the other. Assumes nothing.
 use native.Mathlib.Omega.{arith}
+use lib.ListN.{take}
 use borrow.Author.Needs.{needs}
 use Rattle.script_format.proofs.Writing.{question-written}
 use Rattle.script_format.proofs.put_question.Statement.{statement}
@@ -18,7 +19,7 @@ same-length : tie.Need-same-length
 same-length c = search needs
 
 returns : tie.Need-returns
-returns c = (omega (arith, c .before .before .put-byte2 .ensures .0, c .before .before .before .before .before .before .put-field .ensures .0, c .before .before .before .before .before .before .before .before .before .before .put-byte .ensures .0, c .before .before .put-byte2 .kept .0, c .before .before .before .before .before .before .put-field .kept .0, c .before .before .before .before .before .before .before .before .before .before .put-byte .kept .0), question-written _ (c .before .before .before .before .before .before .before .before .before .before .put-byte .ensures .1) (c .before .before .before .before .before .before .put-field .ensures .1) (c .before .before .put-byte2 .ensures .1))
+returns c = (omega (arith, c .before .before .put-byte2 .ensures .0, c .before .before .before .before .before .before .put-field .ensures .0, c .before .before .before .before .before .before .before .before .before .before .put-byte .ensures .0, c .before .before .put-byte2 .kept .0, c .before .before .before .before .before .before .put-field .kept .0, c .before .before .before .before .before .before .before .before .before .before .put-byte .kept .0), question-written (take (c .before .before .before .before .before .before .before .before .before .before .before .before .before .args .at) (c .before .before .before .before .before .before .before .before .before .before .before .before .before .args .out .now)) _ (c .before .before .before .before .before .before .before .before .before .before .put-byte .ensures .1) (c .before .before .before .before .before .before .put-field .ensures .1) (c .before .before .put-byte2 .ensures .1))
 
 pub put-question-spec : {M : Type 1} → statement M
 put-question-spec =

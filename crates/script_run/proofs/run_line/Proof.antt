@@ -1,5 +1,7 @@
 -- `script_run::run_line` meets its contract: a line in its place is run; any other prints its number. Assumes nothing.
 use mathlib.Core.Path.{sym, _∙_}
+use native.Mathlib.Omega.{arith}
+use lib.ListN.{take}
 use borrow.Author.Needs.{needs}
 use Rattle.script_run.proofs.Steps.{placed, questioned, opened-within}
 use Rattle.script_run.proofs.run_line.Statement.{statement}
@@ -19,8 +21,8 @@ length-of-requires c κs = search needs
 
 run-placed-requires : tie.Need-run-placed-requires
 run-placed-requires c κs =
-    let fits = opened-within (c .before .before .before .before .before .before .before .before .count .result) (c .before .before .before .before .before .before .before .before .before .before .before .before .args .log .opened) (c .before .before .before .before .before .before .line-read .result) (sym (c .before .before .before .before .before .in-place .ensures) ∙ c .before .before .before .before .if1 .taken) (c .before .before .before .before .before .before .before .before .before .before .before .before .pre .1) in
-    (c .before .before .before .before .before .before .before .before .before .before .before .before .pre .0, rw (c .before .before .before .length-of .ensures) fits)
+    let fits = opened-within (c .before .before .before .before .before .before .before .before .count .result) (c .before .before .before .before .before .before .before .before .before .before .before .before .args .log .opened) (c .before .before .before .before .before .before .line-read .result) (sym (c .before .before .before .before .before .in-place .ensures) ∙ c .before .before .before .before .if1 .taken) (c .before .before .before .before .before .before .before .before .before .before .before .before .pre .1 .0) in
+    (c .before .before .before .before .before .before .before .before .before .before .before .before .pre .0, (rw (c .before .before .before .length-of .ensures) fits, c .before .before .before .before .before .before .before .before .before .before .before .before .pre .1 .1))
 
 same-length : tie.Need-same-length
 same-length c = search needs
@@ -33,7 +35,7 @@ same-length-3 c = search needs
 
 returns : tie.Need-returns
 returns c = (
-  placed _ _ _ _ _ _ (c .before .before .before .before .before .before .before .before .before .before .before .before .before .before .before .count .ensures) (c .before .before .before .before .before .before .before .before .before .before .before .before .before .line-read .ensures) (sym (c .before .before .before .before .before .before .before .before .before .before .before .before .in-place .ensures) ∙ c .before .before .before .before .before .before .before .before .before .before .before .if1 .taken) (c .before .before .before .before .before .before .before .before .before .before .length-of .ensures) (c .before .before .before .before .before .before .run-placed .ensures .0),
+  placed (take (c .before .before .before .before .before .before .before .before .before .before .before .before .before .before .before .before .before .before .before .args .log .printed) (c .before .before .before .before .before .before .before .before .before .before .before .before .before .before .before .before .before .before .before .args .out .now)) _ _ _ _ _ _ (c .before .before .before .before .before .before .before .before .before .before .before .before .before .before .before .count .ensures) (c .before .before .before .before .before .before .before .before .before .before .before .before .before .line-read .ensures) (sym (c .before .before .before .before .before .before .before .before .before .before .before .before .in-place .ensures) ∙ c .before .before .before .before .before .before .before .before .before .before .before .if1 .taken) (c .before .before .before .before .before .before .before .before .before .before .length-of .ensures) (c .before .before .before .before .before .before .run-placed .ensures .0),
   c .before .before .before .before .before .before .run-placed .ensures .1,
 )
 
@@ -48,8 +50,8 @@ same-length-4 c = search needs
 
 returns-2 : tie.Need-returns-2
 returns-2 c = (
-  questioned _ _ _ _ _ _ (c .before .before .before .before .before .before .before .before .before .count .ensures) (c .before .before .before .before .before .before .before .line-read .ensures) (sym (c .before .before .before .before .before .before .in-place .ensures) ∙ c .before .before .before .before .before .if1 .left) (c .no-bytes .ensures) (c .before .before .before .put-question .ensures .1),
-  record { opens = c .before .before .before .before .before .before .before .before .before .before .before .before .before .pre .1; prints = c .before .before .before .put-question .ensures .0 },
+  questioned (take (c .before .before .before .before .before .before .before .before .before .before .before .before .before .args .log .printed) (c .before .before .before .before .before .before .before .before .before .before .before .before .before .args .out .now)) _ _ _ _ _ _ (c .before .before .before .before .before .before .before .before .before .count .ensures) (c .before .before .before .before .before .before .before .line-read .ensures) (sym (c .before .before .before .before .before .before .in-place .ensures) ∙ c .before .before .before .before .before .if1 .left) (c .no-bytes .ensures) (c .before .before .before .put-question .ensures .1),
+  record { opens = c .before .before .before .before .before .before .before .before .before .before .before .before .before .pre .1 .0; prints = omega (arith, c .before .before .before .put-question .ensures .0) },
 )
 
 pub run-line-spec : {M : Type 1} → statement M

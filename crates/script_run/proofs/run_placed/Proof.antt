@@ -1,4 +1,5 @@
 -- `script_run::run_placed` meets its contract: call, end, top and text are those of the step, one by one. Assumes nothing.
+use lib.ListN.{take}
 use borrow.Author.Needs.{needs}
 use Rattle.script_run.proofs.Steps.{ran}
 use Rattle.script_run.proofs.run_placed.Statement.{statement}
@@ -33,8 +34,8 @@ same-length-3 c = search needs
 
 returns : tie.Need-returns
 returns c = (
-  ran _ _ _ _ (c .before .before .before .before .before .before .before .before .before .before .before .before .before .call-within .ensures) (c .before .before .before .before .before .before .before .before .ends-by .ensures) (c .before .before .before .before .before .before .top-after .ensures) (c .before .before .before .before .before .letter-of .ensures) (c .before .before .before .put-answer .ensures .1) (c .no-bytes .ensures),
-  record { opens = c .before .before .before .before .before .before .before .before .before .before .before .before .before .before .before .before .before .before .before .pre .1; prints = c .before .before .before .put-answer .ensures .0 },
+  ran (take (c .before .before .before .before .before .before .before .before .before .before .before .before .before .before .before .before .before .before .before .args .at) (c .before .before .before .before .before .before .before .before .before .before .before .before .before .before .before .before .before .before .before .args .out .now)) _ _ _ _ (c .before .before .before .before .before .before .before .before .before .before .before .before .before .call-within .ensures) (c .before .before .before .before .before .before .before .before .ends-by .ensures) (c .before .before .before .before .before .before .top-after .ensures) (c .before .before .before .before .before .letter-of .ensures) (c .before .before .before .put-answer .ensures .1) (c .no-bytes .ensures),
+  record { opens = c .before .before .before .before .before .before .before .before .before .before .before .before .before .before .before .before .before .before .before .pre .1 .0; prints = c .before .before .before .put-answer .ensures .0 },
 )
 
 pub run-placed-spec : {M : Type 1} → statement M
