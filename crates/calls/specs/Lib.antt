@@ -3,12 +3,3 @@ pub mod Ways
 pub mod Through
 pub mod Grants
 pub mod Resizes
-pub mod Bytes
-pub mod Written
-pub mod Remainder
-pub mod Results
-pub mod Left
-pub mod Cases
-pub mod Consequences
-pub mod ResizeConsequences
-pub mod FirstWord

@@ -29,8 +29,8 @@ use Rattle.sound.specs.Ends.{Ends}
 use Rattle.sound.specs.Release.{both-true}
 use Rattle.sound.specs.Live.{live-loose}
 use Rattle.history.specs.Histories.{Event, Grant, Release, Resize, Settle, Store, Block, holds?, drop, State, state, heapAt, granted, released, resized, settled, next, run, answerOf, answerTo, answers}
-use Rattle.calls.specs.Written.{written-read}
-use Rattle.calls.specs.Remainder.{Fine, grant-fine, release-fine, resize-fine, settle-fine}
+use Rattle.calls_consequences.specs.Written.{written-read}
+use Rattle.calls_consequences.specs.Remainder.{Fine, grant-fine, release-fine, resize-fine, settle-fine}
 use Rattle.history.specs.Ready.{Ready, ReadyAt, ready-fine}
 use Rattle.history.specs.Called.{grant-large, grant-called, release-called, settle-called, Way, Null, Zero, Large, Dead, Through, way, resizeBy, resize-called}
 use Rattle.history.specs.Stores.{store-view}

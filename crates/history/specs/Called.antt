@@ -25,8 +25,8 @@ use Rattle.machine.specs.declared.Answer.the-variants.{Done, Refused}
 use Rattle.sound.specs.Relation.{Sound}
 use Rattle.sound.specs.Tiles.{lt-or-le}
 use Rattle.audit.specs.Exact.{audit-complete}
-use Rattle.calls.specs.Results.{Lent}
 use Rattle.calls.specs.Ways.{resize-null, resize-zero, resize-request, resize-dead, resize-live}
+use Rattle.calls_consequences.specs.Results.{Lent}
 
 pub lent-shape : (a r : List ℕ) → Lent a r → (eqb (length r) 1572 ≡ true) × (arenaAllowed? (length a) ≡ true)
 lent-shape a r L = (

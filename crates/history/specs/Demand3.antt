@@ -12,7 +12,7 @@ use Rattle.machine.specs.Lists.{either}
 use Rattle.machine.specs.Heap.{binned, live?}
 use Rattle.machine.specs.Calls.{heapIn, auditCall, faultNumbers}
 use Rattle.machine.specs.declared.HeapAnswer.{HeapAnswer}
-use Rattle.calls.specs.Results.{Lent}
+use Rattle.calls_consequences.specs.Results.{Lent}
 use Rattle.history.specs.Histories.{Event, Block, State, state, recordIn, blocksIn}
 use Rattle.history.specs.Performed.{Began, Did}
 

@@ -20,8 +20,8 @@ use Rattle.sound.specs.Relation.{all, flags}
 use Rattle.sound.specs.Edits.{snoc-tiles}
 use Rattle.sound.specs.Opened.{opened-ends}
 use Rattle.history.specs.Histories.{Event, Settle, Block, State, state, heapAt, arenaIn, recordIn, blocksIn, settled, run, answers, begin}
-use Rattle.calls.specs.Results.{Lent}
-use Rattle.calls.specs.Written.{written-read}
+use Rattle.calls_consequences.specs.Results.{Lent}
+use Rattle.calls_consequences.specs.Written.{written-read}
 use Rattle.history.specs.Ready.{Ready, ReadyAt}
 use Rattle.history.specs.Called.{open-lent}
 use Rattle.history.specs.Runs.{begin-ready, run-ready}

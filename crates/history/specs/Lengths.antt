@@ -19,8 +19,8 @@ use Rattle.machine.specs.declared.Answer.the-variants.{Done}
 use Rattle.machine.specs.declared.Refusal.the-variants as N
 use Rattle.sound.specs.Tiles.{lt-or-le}
 use Rattle.history.specs.Histories.{Event, Grant, Release, Resize, Settle, Store, Block, holds?, State, state, arenaIn, granted, released, resized, settled, next, run, begin}
-use Rattle.calls.specs.Results.{Lent}
-use Rattle.calls.specs.Left.{left-length}
+use Rattle.calls_consequences.specs.Results.{Lent}
+use Rattle.calls_consequences.specs.Left.{left-length}
 use Rattle.history.specs.Ready.{Ready, ReadyAt}
 use Rattle.history.specs.Called.{open-lent, grant-large, grant-called, release-called, settle-called, Way, Null, Zero, Large, Dead, Through, way, resizeBy, resize-called}
 use Rattle.history.specs.Runs.{resized-null, resized-zero, next-ready}

@@ -24,7 +24,7 @@ use Rattle.sound.specs.Spares.{clear-of}
 use Rattle.sound.specs.RecordOf.{record-words}
 use Rattle.history.specs.Histories.{Block}
 use Rattle.history.specs.Demand3.{Held, Stretch, Free, Mended}
-use Rattle.calls.specs.Written.{start-most, top-most}
+use Rattle.calls_consequences.specs.Written.{start-most, top-most}
 use Rattle.history.specs.Ready.{Ready, held-loose}
 use Rattle.history.specs.Stretches.{stretch-one, held-in, held-out}
 

@@ -10,8 +10,8 @@ use borrow.Author.Tests.{ne-eqb}
 use Rattle.machine.specs.Calls.{After, after, answerNumbers, openCall, grantCall, releaseCall, resizeCall, settleCall}
 use Rattle.machine.specs.declared.HeapAnswer.{HeapAnswer}
 use Rattle.machine.specs.declared.Answer.{Answer}
-use Rattle.calls.specs.Results.{Lent, arenaLeft, recordLeft}
-use Rattle.calls.specs.Cases.{grant-cases, release-cases, resize-cases, settle-cases}
+use Rattle.calls_consequences.specs.Results.{Lent, arenaLeft, recordLeft}
+use Rattle.calls_consequences.specs.Cases.{grant-cases, release-cases, resize-cases, settle-cases}
 use Rattle.heap.specs.Exported.{Back, back, numbered, numbersBack}
 use Rattle.history.specs.Histories.{Event, Grant, Release, Resize, Settle, Store, Block, drop, State, state, granted, released, resized, settled, next, run, answerOf, answerTo, answers, numbers, begin}
 use Rattle.history.specs.Performed.{callOf, eventOf, heldAfter, Began, began, Did, none, called, stored}

@@ -25,11 +25,11 @@ use Rattle.sound.specs.Tiles.{lt-or-le, starts-once}
 use Rattle.sound.specs.Edits.{tiled-tiles}
 use Rattle.sound.specs.RecordOf.{record-words}
 use Rattle.history.specs.Histories.{Block, drop, State, state}
-use Rattle.calls.specs.Results.{Lent}
-use Rattle.calls.specs.Bytes.{bytes-small}
-use Rattle.calls.specs.Written.{written-sound, written-read}
-use Rattle.calls.specs.Remainder.{Fine}
-use Rattle.calls.specs.Left.{left-length}
+use Rattle.calls_consequences.specs.Results.{Lent}
+use Rattle.calls_consequences.specs.Bytes.{bytes-small}
+use Rattle.calls_consequences.specs.Written.{written-sound, written-read}
+use Rattle.calls_consequences.specs.Remainder.{Fine}
+use Rattle.calls_consequences.specs.Left.{left-length}
 
 -- how often a block at mem m is held
 abbrev pub heldAt : ℕ → List Block → ℕ

@@ -36,10 +36,10 @@ use Rattle.sound.specs.Resize.{nowAt, Resized, standing, resize-resized}
 use Rattle.sound.specs.Live.{live-loose}
 use Rattle.sound.specs.Opened.{opened-ends}
 use Rattle.history.specs.Histories.{Event, Grant, Release, Resize, Settle, Store, Block, holds?, drop, State, state, granted, released, resized, settled, next, run, begin}
-use Rattle.calls.specs.Results.{Lent}
-use Rattle.calls.specs.Cases.{release-cases}
+use Rattle.calls_consequences.specs.Results.{Lent}
+use Rattle.calls_consequences.specs.Cases.{release-cases}
 use Rattle.history.specs.Ready.{heldAt, Sized, Ready, ReadyAt, held-loose, held-once, sized-keep, ind-chunk, drop-count, drop-none, sized-drop, left-ready, ready-fine}
-use Rattle.calls.specs.Remainder.{Fine, grant-fine, release-fine, resize-fine, settle-fine}
+use Rattle.calls_consequences.specs.Remainder.{Fine, grant-fine, release-fine, resize-fine, settle-fine}
 use Rattle.history.specs.Called.{open-lent, grant-large, grant-called, release-called, settle-called, Way, Null, Zero, Large, Dead, Through, way, resizeBy, resize-called}
 use Rattle.history.specs.Stores.{store-ready}
 

@@ -8,7 +8,7 @@ use native.Mathlib.Omega.{arith}
 use lib.ListN.{getD, replicate}
 use Rattle.machine.specs.declared.Answer.the-variants.{Done, Granted, Refused}
 use Rattle.history.specs.Histories.{Grant, Release, Resize, Settle, next, run, answers, begin}
-use Rattle.calls.specs.Results.{Lent}
+use Rattle.calls_consequences.specs.Results.{Lent}
 use Rattle.history.specs.Demand3.{Held, here, Stretch, MendedAt}
 use Rattle.le.specs.Number as L
 use Rattle.le.specs.Arena as B

@@ -17,9 +17,9 @@ use Rattle.sound.specs.Relation.{Mem}
 use Rattle.sound.specs.Tiles.{lt-or-le}
 use Rattle.sound.specs.Settle.{Settled, settle-leaves}
 use Rattle.history.specs.Histories.{Event, Settle, Block, State, state, settled, next, run, begin}
-use Rattle.calls.specs.Results.{Lent}
+use Rattle.calls_consequences.specs.Results.{Lent}
 use Rattle.history.specs.Demand3.{MendedAt}
-use Rattle.calls.specs.Written.{written-read}
+use Rattle.calls_consequences.specs.Written.{written-read}
 use Rattle.history.specs.Ready.{ReadyAt}
 use Rattle.history.specs.Called.{settle-called}
 use Rattle.history.specs.Runs.{begin-ready, next-ready, run-ready}

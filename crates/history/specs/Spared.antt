@@ -14,9 +14,9 @@ use Rattle.machine.specs.declared.Refusal.{Refusal}
 use Rattle.machine.specs.declared.Refusal.the-variants as N
 use Rattle.sound.specs.Tiles.{lt-or-le}
 use Rattle.sound.specs.Live.{loose-live}
-use Rattle.calls.specs.Results.{answered, arenaLeft, LiveKept}
-use Rattle.calls.specs.Consequences.{grant-live-bytes-kept, release-live-bytes-kept, settle-live-bytes-kept}
-use Rattle.calls.specs.ResizeConsequences.{resize-large-refused, resized-to, resize-live-bytes-kept, resize-refused-keeps}
+use Rattle.calls_consequences.specs.Results.{answered, arenaLeft, LiveKept}
+use Rattle.calls_consequences.specs.Consequences.{grant-live-bytes-kept, release-live-bytes-kept, settle-live-bytes-kept}
+use Rattle.calls_consequences.specs.ResizeConsequences.{resize-large-refused, resized-to, resize-live-bytes-kept, resize-refused-keeps}
 use Rattle.history.specs.Histories.{Event, Grant, Release, Resize, Settle, Store, Block, State, state, heapAt, arenaIn, blocksIn, granted, released, resized, settled, answerTo, next}
 use Rattle.history.specs.Ready.{heldAt, Ready, ReadyAt, held-loose}
 use Rattle.history.specs.Called.{sound-in}

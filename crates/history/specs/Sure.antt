@@ -25,9 +25,9 @@ use Rattle.sound.specs.Tiles.{lt-or-le, zero-or}
 use Rattle.sound.specs.Live.{loose-live}
 use Rattle.audit.specs.Exact.{audit-complete}
 use Rattle.history.specs.Histories.{Event, Grant, Release, Resize, Settle, Store, Block, State, state, answerOf, answerTo, answers, numbers, next, run, begin}
-use Rattle.calls.specs.Results.{Lent}
-use Rattle.calls.specs.Left.{lent-shape}
 use Rattle.calls.specs.Ways.{audit-good}
+use Rattle.calls_consequences.specs.Results.{Lent}
+use Rattle.calls_consequences.specs.Left.{lent-shape}
 use Rattle.history.specs.Demand3.{held?, LiveAt, AuditsAt, Fair, AllFair}
 use Rattle.history.specs.Ready.{heldAt, Ready, ReadyAt}
 use Rattle.history.specs.Called.{grant-large, grant-called, release-called, settle-called, Way, Null, Zero, Large, Dead, Through, way, resizeBy, resize-called}

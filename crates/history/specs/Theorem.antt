@@ -6,7 +6,7 @@ use Prim.Native.Nat.{ℕ}
 use lib.ListN.{length}
 use Rattle.machine.specs.Calls.{answerNumbers}
 use Rattle.machine.specs.declared.HeapAnswer.{HeapAnswer}
-use Rattle.calls.specs.Results.{Lent}
+use Rattle.calls_consequences.specs.Results.{Lent}
 use Rattle.history.specs.Histories.{Event, Settle, State, recordIn, blocksIn, run, answers, numbers, begin}
 use Rattle.history.specs.Performed.{Began, Did}
 use Rattle.history.specs.Demand3.{AllFair, LiveAt, MendedAt, New, Demand}

@@ -43,12 +43,12 @@ use Rattle.sound.specs.Unsorted.{unsorted-few}
 use Rattle.sound.specs.Live.{But, Gives, live-loose, loose-live, release-goes, settle-stays, grant-gives, grant-refused}
 use Rattle.audit.specs.Exact.{arena-words, audit-good}
 use Rattle.primitives.specs.Follow.{Has, Does}
 use Rattle.calls.specs.Ways.{allowed-true, grant-shape, grant-request, grant-unsound, release-shape, release-unsound, settle-shape, settle-unsound}
-use Rattle.calls.specs.Written.{top-most, chunk-most}
-use Rattle.calls.specs.Remainder.{Fine, grant-fine, release-fine, settle-fine}
-use Rattle.calls.specs.Results.{Lent, SoundIn, UnsoundIn, answered, arenaLeft, recordLeft, heapLeft, LiveMem, Exactly, StaysSound, CachesKept, LiveKept, BlockAt, GrantedNew}
-use Rattle.calls.specs.Left.{lent-shape, lent-sound, lent-fine, left-heap, left-stays, left-keeps}
-use Rattle.calls.specs.Cases.{open-called, grant-cases, release-cases, settle-cases}
+use Rattle.calls_consequences.specs.Written.{top-most, chunk-most}
+use Rattle.calls_consequences.specs.Remainder.{Fine, grant-fine, release-fine, settle-fine}
+use Rattle.calls_consequences.specs.Results.{Lent, SoundIn, UnsoundIn, answered, arenaLeft, recordLeft, heapLeft, LiveMem, Exactly, StaysSound, CachesKept, LiveKept, BlockAt, GrantedNew}
+use Rattle.calls_consequences.specs.Left.{lent-shape, lent-sound, lent-fine, left-heap, left-stays, left-keeps}
+use Rattle.calls_consequences.specs.Cases.{open-called, grant-cases, release-cases, settle-cases}
 
 -- ---- number 3: an unsound heap is refused before the first write, and nothing changes
 pub unsound-refused : (a r : List ℕ) (n m : ℕ) → Lent a r → UnsoundIn a r → n ≤ 262144

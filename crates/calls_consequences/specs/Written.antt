@@ -21,7 +21,7 @@ use Rattle.sound.specs.Edits.{tiled-tiles}
 use Rattle.sound.specs.Spares.{clear-of}
 use Rattle.sound.specs.RecordOf.{record-words, record-ext}
 use Rattle.audit.specs.Exact.{audit-read}
-use Rattle.calls.specs.Bytes.{cut, getD-cut, length-cut, words-cut, arenaWords-cut}
+use Rattle.calls_consequences.specs.Bytes.{cut, getD-cut, length-cut, words-cut, arenaWords-cut}
 
 -- a word that tiled its width is read as it was written
 kept8 : (w : List ℕ) (i x : ℕ) → getD w i 0 ≡ x → x ≤ none64 → getD (cut 8 w) i 0 ≡ x

@@ -24,7 +24,7 @@ use Rattle.sound.specs.Small.{some-has}
 use Rattle.sound.specs.Large.{fit-has, firstBin-has}
 use Rattle.sound.specs.Live.{consolidate-empties, settle-empties}
 use Rattle.sound.specs.Keeps.{release-ends, consolidate-ends, settle-ends, step1-ends, step2-ends, step3-ends, turn-ends, step5-ends, step6-ends, step7-ends, step9-ends, resize-ends}
-use Rattle.calls.specs.Written.{bin-most}
+use Rattle.calls_consequences.specs.Written.{bin-most}
 
 abbrev Low : {A : Type 0} → Ran A → Type 0
 Low r = heapOf r .remainder ≤ none32

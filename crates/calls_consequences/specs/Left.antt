@@ -28,12 +28,12 @@ use Rattle.sound.specs.RecordOf.{record-words}
 use Rattle.sound.specs.Ends.{Ends}
 use Rattle.sound.specs.Live.{Tame, tame-words, live-loose, loose-live}
 use Rattle.audit.specs.Exact.{audit-complete}
 use Rattle.calls.specs.Ways.{shape-true}
 use Rattle.calls.specs.Through.{came-sound}
-use Rattle.calls.specs.Bytes.{byte-same, bytes-small}
-use Rattle.calls.specs.Written.{top-most, chunk-most, written-sound, written-read}
-use Rattle.calls.specs.Remainder.{Fine}
-use Rattle.calls.specs.Results.{Lent, SoundIn, heapLeft, StaysSound, LiveKept}
+use Rattle.calls_consequences.specs.Bytes.{byte-same, bytes-small}
+use Rattle.calls_consequences.specs.Written.{top-most, chunk-most, written-sound, written-read}
+use Rattle.calls_consequences.specs.Remainder.{Fine}
+use Rattle.calls_consequences.specs.Results.{Lent, SoundIn, heapLeft, StaysSound, LiveKept}
 
 -- ---- good shape
 pub lent-shape : (a r : List ℕ) → Lent a r → (arenaAllowed? (length a) ≡ true) × (shape? a r ≡ true)

@@ -29,12 +29,12 @@ use Rattle.sound.specs.Moves.{answerOf}
 use Rattle.sound.specs.Ends.{Ends}
 use Rattle.sound.specs.Resize.{standing}
 use Rattle.sound.specs.Live.{But, Resizes, live-loose, resize-resizes, resize-own-p, resize-refused}
 use Rattle.calls.specs.Ways.{grant-shape, grant-request, grant-unsound, release-shape, release-unsound, resize-null, resize-zero, resize-shape}
-use Rattle.calls.specs.Remainder.{Fine, resize-fine}
-use Rattle.calls.specs.Results.{Lent, SoundIn, UnsoundIn, answered, heapLeft, LiveMem, Exactly, StaysSound, CachesKept, LiveKept, BlockAt, ResizedTo}
-use Rattle.calls.specs.Left.{lent-shape, lent-sound, lent-fine, left-heap, left-stays, left-keeps, left-moves}
-use Rattle.calls.specs.Cases.{grant-cases, release-cases, resize-cases}
-use Rattle.calls.specs.Consequences.{large-refused, clash, no-yes, not-live, block-at, same-keeps, same-stays, grant-refused-unchanged, release-refused-unchanged, release-4-exactly, grant-stays-sound, release-stays-sound, grant-5-keeps, grant-live-bytes-kept, release-live-bytes-kept}
+use Rattle.calls_consequences.specs.Remainder.{Fine, resize-fine}
+use Rattle.calls_consequences.specs.Results.{Lent, SoundIn, UnsoundIn, answered, heapLeft, LiveMem, Exactly, StaysSound, CachesKept, LiveKept, BlockAt, ResizedTo}
+use Rattle.calls_consequences.specs.Left.{lent-shape, lent-sound, lent-fine, left-heap, left-stays, left-keeps, left-moves}
+use Rattle.calls_consequences.specs.Cases.{grant-cases, release-cases, resize-cases}
+use Rattle.calls_consequences.specs.Consequences.{large-refused, clash, no-yes, not-live, block-at, same-keeps, same-stays, grant-refused-unchanged, release-refused-unchanged, release-4-exactly, grant-stays-sound, release-stays-sound, grant-5-keeps, grant-live-bytes-kept, release-live-bytes-kept}
 
 -- ---- number 1
 pub resize-bad-shape-refused : (a r : List ℕ) (m n : ℕ) → shape? a r ≡ false → resizeCall a r m n ≡ after a r (Refused R.Shape)

@@ -27,9 +27,9 @@ use Rattle.machine.specs.declared.Answer.the-variants.{Done, Granted, Refused}
 use Rattle.sound.specs.Tiles.{lt-or-le}
 use Rattle.sound.specs.Moves.{answerOf}
 use Rattle.sound.specs.Release.{both-true}
 use Rattle.calls.specs.Ways.{on-sound, request-sound, grant-request, grant-unsound, release-unsound, release-null, release-dead, release-live, resize-null, resize-zero, resize-request, resize-unsound, resize-dead, resize-live, settle-unsound}
-use Rattle.calls.specs.Results.{Lent, SoundIn, UnsoundIn, LiveMem}
-use Rattle.calls.specs.Left.{lent-shape}
+use Rattle.calls_consequences.specs.Results.{Lent, SoundIn, UnsoundIn, LiveMem}
+use Rattle.calls_consequences.specs.Left.{lent-shape}
 
 -- the audit says one or the other
 pub sound-or-not : {B : Type 0} (a r : List ℕ) → (SoundIn a r → B) → (UnsoundIn a r → B) → B

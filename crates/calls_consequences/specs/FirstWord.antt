@@ -23,10 +23,10 @@ use Rattle.sound.specs.Settle.{settle-leaves}
 use Rattle.sound.specs.Grant.{grant-leaves}
 use Rattle.sound.specs.Resize.{resize-resized}
 use Rattle.sound.specs.Live.{live-loose}
-use Rattle.calls.specs.Bytes.{byte-same}
-use Rattle.calls.specs.Results.{Lent, SoundIn, arenaLeft, LiveMem}
-use Rattle.calls.specs.Left.{lent-sound}
-use Rattle.calls.specs.Cases.{open-called, grant-cases, release-cases, resize-cases, settle-cases}
+use Rattle.calls_consequences.specs.Bytes.{byte-same}
+use Rattle.calls_consequences.specs.Results.{Lent, SoundIn, arenaLeft, LiveMem}
+use Rattle.calls_consequences.specs.Left.{lent-sound}
+use Rattle.calls_consequences.specs.Cases.{open-called, grant-cases, release-cases, resize-cases, settle-cases}
 
 -- a call that leaves bytes 0 to 7 of the arena a as they were
 abbrev pub FirstKept : List ℕ → After → Type 0

@@ -1,0 +1,9 @@
+pub mod Bytes
+pub mod Written
+pub mod Remainder
+pub mod Results
+pub mod Left
+pub mod Cases
+pub mod Consequences
+pub mod ResizeConsequences
+pub mod FirstWord
