@@ -129,13 +129,16 @@
  *
  * The check walks over all chunks, so a call takes time in proportion to
  * their number and to the arena's length; a resize that moves a block copies
- * its usable bytes as well. Give a call of grant, release, resize, settle or
- * audit HEAP_STACK_BYTES of stack. The most that was measured is 23,681, by a
- * resize, and 21,985 by any other, over 600 random heaps, of which 20,000 are
- * marks, one for each 16 bytes of an arena in four sizes of array, and 1,572
- * the record's words, which a resize that is a grant or a release has twice.
- * heap_open needs no marks; the most measured is 632. No call is recursive,
- * none takes memory from elsewhere, and none calls back.
+ * its usable bytes as well. A release that makes one free piece of 65,536 bytes
+ * or more, the top included, also joins the chunks of the fast lists, as some
+ * grants and every settle do; so does a resize with what it releases. Give a
+ * call of grant, release, resize, settle or audit HEAP_STACK_BYTES of stack.
+ * The most that was measured is 23,681, by a resize, and 21,985 by any other,
+ * over 600 random heaps and three where that joining takes place, of which
+ * 20,000 are marks, one for each 16 bytes of an arena in four sizes of array,
+ * and 1,572 the record's words, which a resize that is a grant or a release has
+ * twice. heap_open needs no marks; the most measured is 632. No call is
+ * recursive, none takes memory from elsewhere, and none calls back.
  *
  * libheap.a is x86-64 code by the System V calling convention.
  */

@@ -11,11 +11,6 @@
  *
  * The address space is then closed, so that glibc refuses where the second
  * program refuses with 5, instead of asking the system for more.
- *
- * Document 01 leaves out that free consolidates when a joining yields 65,536
- * bytes or more, and so does request (i) for what a resize releases. A top
- * below that length never shows it; in the longer ones a sequence ends at the
- * first such joining.
  */
 #define _DEFAULT_SOURCE
 
@@ -48,7 +43,6 @@ int main(void)
 #include <gnu/libc-version.h>
 
 #define SLOTS 512
-#define JOIN_LIMIT 65536
 
 /* What a sequence starts with, and how many calls it has. */
 enum top { SHORT_TOP, MIDDLE_TOP, LONG_TOP, TOPS };
@@ -58,8 +52,8 @@ static const struct {
     uint32_t least, most, calls;
 } tops[TOPS] = {
     { "tops below 1,536", 256, 1520, 60 },
-    { "tops below 65,536", 4096, JOIN_LIMIT - 16, 1000 },
-    { "longer tops", JOIN_LIMIT, PLAIN_ARENA_MAX, 1000 },
+    { "tops below 65,536", 4096, 65520, 1000 },
+    { "longer tops", 65536, PLAIN_ARENA_MAX, 1000 },
 };
 
 struct sizes {
@@ -76,7 +70,7 @@ struct pair {
 struct report {
     uint64_t grants, releases, refusals;
     uint64_t resizes, moved, resizes_refused;
-    uint64_t grown, joined; /* sequences ended by a grown top, by a joining */
+    uint64_t grown; /* sequences ended by a grown top */
     uint64_t reached[SECOND_PLACE_COUNT];
     bool failed;
     uint64_t seed;
@@ -220,18 +214,6 @@ static uint32_t both_grant(struct duel *d, uint64_t n)
     return a.mem;
 }
 
-/* Document 01 does not have what glibc does at such a joining. */
-static bool joined_too_much(struct duel *d)
-{
-    if (second_trace.released < JOIN_LIMIT)
-        return false;
-    if (second_trace.released > d->length)
-        fail(d, "bytes joined", second_trace.released, 0);
-    d->report->joined++;
-    d->over = true;
-    return true;
-}
-
 static void both_release(struct duel *d, uint32_t i)
 {
     if (d->over)
@@ -247,8 +229,6 @@ static void both_release(struct duel *d, uint32_t i)
         fail(d, "release answers", a.no != 0 ? a.no : a.mem, 0);
         return;
     }
-    if (joined_too_much(d))
-        return;
     if (!zero)
         free(pair.theirs);
     else if (realloc(pair.theirs, 0) != NULL)
@@ -283,8 +263,6 @@ static void both_resize(struct duel *d, uint32_t i, uint64_t n)
 
     struct second_answer a = second_resize(arena, d->length, record,
                                            sizeof record, pair->mine, n);
-    if (joined_too_much(d))
-        return;
     void *end = sbrk(0);
     void *p = realloc(pair->theirs, n);
     if (!same_answer(d, a, p, sbrk(0) != end))
@@ -447,6 +425,67 @@ static void block_between_fast_chunks(struct duel *d)
                             : 1 + random_below(&d->r, d->length / 4));
 }
 
+/* Chunk sizes on both sides of 65,536, now and then far below. */
+static uint32_t much(struct duel *d)
+{
+    return random_chance(&d->r, 70) ? 65488 + 16 * random_below(&d->r, 14)
+                                    : 1056 + 16 * random_below(&d->r, 2000);
+}
+
+/*
+ * Large blocks between blocks of n, most of which are then fast; the large
+ * ones are released, or first made short. What is joined consolidates, or is
+ * just too little for it.
+ */
+static void release_much(struct duel *d)
+{
+    uint32_t n = random_below(&d->r, 121), mem[7], block[7], blocks = 0;
+
+    for (uint32_t i = 0; i < 7; i++)
+        mem[i] = both_grant(d, n);
+    for (uint32_t i = 1 + random_below(&d->r, 3); i > 0; i--) {
+        block[blocks++] = both_grant(d, n);
+        block[blocks++] = both_grant(d, much(d) - 8);
+    }
+    block[blocks++] = both_grant(d, n);
+    for (uint32_t i = 0; i < 7; i++)
+        both_release_mem(d, mem[i]);
+    while (blocks > 0) {
+        uint32_t drawn = random_below(&d->r, blocks);
+        if (random_chance(&d->r, 30))
+            both_resize_mem(d, block[drawn], 1 + random_below(&d->r, 100));
+        if (random_chance(&d->r, 70)) {
+            both_release_mem(d, block[drawn]);
+            block[drawn] = block[--blocks];
+        }
+    }
+}
+
+/*
+ * A small block behind a large free chunk, of which its resize takes the front
+ * and then joins the block with what is left.
+ */
+static void move_out_of_much(struct duel *d)
+{
+    uint32_t n = 121 + random_below(&d->r, 800), mem[7];
+    uint32_t small = random_below(&d->r, 121), fast[8];
+
+    for (uint32_t i = 0; i < 7; i++)
+        mem[i] = both_grant(d, n);
+    for (uint32_t i = 0; i < 8; i++)
+        fast[i] = both_grant(d, small);
+    both_grant(d, 24);
+    uint32_t large = both_grant(d, much(d) - 8);
+    uint32_t block = both_grant(d, n);
+    both_grant(d, 24);
+    for (uint32_t i = 0; i < 7; i++)
+        both_release_mem(d, mem[i]);
+    both_release_mem(d, large);
+    for (uint32_t i = 0; i < 8; i++)
+        both_release_mem(d, fast[i]);
+    both_resize_mem(d, block, n + 16 + random_below(&d->r, 100));
+}
+
 static void release_some(struct duel *d)
 {
     uint32_t keep = random_below(&d->r, d->pairs + 1);
@@ -456,10 +495,10 @@ static void release_some(struct duel *d)
         both_release(d, random_below(&d->r, d->pairs));
 }
 
-/* Most of a long top is used up first, so that few joins reach it. */
+/* Most of a long top is used up first, so that the bins serve and refuse. */
 static void fill_long_top(struct duel *d)
 {
-    while (d->length - plain_word(record, 1) > JOIN_LIMIT / 2
+    while (d->length - plain_word(record, 1) > 32768
            && d->pairs < SLOTS / 2 && !d->over)
         both_grant(d, random_chance(&d->r, 50) ? random_request(d)
                                                : random_below(&d->r, 24000));
@@ -491,6 +530,8 @@ static void run_sequence(struct duel *d, uint32_t calls)
             fences_that_grow(d);
         else if (drawn < 34)
             block_between_fast_chunks(d);
+        else if (drawn < 36 && d->length > 65536)
+            release_much(d);
         else if (d->pairs > 0 && random_chance(&d->r, resize_percent))
             resize_some(d);
         else if (d->pairs == 0 || random_chance(&d->r, grant_percent)) {
@@ -560,8 +601,12 @@ static void child(struct report *report, uint64_t seed, enum top top)
     close_address_space();
     if (top == SHORT_TOP)
         block_between_fast_chunks(d);
-    else if (top == LONG_TOP)
+    else if (top == LONG_TOP && random_chance(&d->r, 60))
         fill_long_top(d);
+    else if (top == LONG_TOP && random_chance(&d->r, 50))
+        move_out_of_much(d);
+    else if (top == LONG_TOP)
+        release_much(d);
     else if (random_chance(&d->r, 25))
         remainder_that_grows(d);
     run_sequence(d, tops[top].calls);
@@ -599,7 +644,7 @@ static bool tell(const char *name, const struct report *report)
     else
         printf("ok %s, glibc %s: %llu grants, %llu releases, %llu refusals, "
                "%llu resizes (%llu moved, %llu refused) agree; %llu sequences "
-               "ended early by a joining, %llu by a top that grew\n",
+               "ended early by a top that grew\n",
                name, gnu_get_libc_version(), (unsigned long long)report->grants,
                (unsigned long long)report->releases,
                (unsigned long long)report->refusals,
@@ -607,11 +652,11 @@ static bool tell(const char *name, const struct report *report)
                    + (unsigned long long)report->resizes_refused,
                (unsigned long long)report->moved,
                (unsigned long long)report->resizes_refused,
-               (unsigned long long)report->joined,
                (unsigned long long)report->grown);
     return !report->failed;
 }
 
+/* Of a settle there is nothing to compare with. */
 static bool every_place_reached(const struct report *report)
 {
 #define PLACE_TEXT(place, text) text,
@@ -621,6 +666,8 @@ static bool every_place_reached(const struct report *report)
 
     for (unsigned i = 0; i < SECOND_PLACE_COUNT; i++) {
         uint64_t times = 0;
+        if (i == SETTLE_CONSOLIDATES)
+            continue;
         for (unsigned top = 0; top < TOPS; top++)
             times += report[top].reached[i];
         printf("   %9llu times: %s\n", (unsigned long long)times, text[i]);

@@ -1,9 +1,9 @@
 /*
- * Document 01's heap, with request (i) of document 02. The order of the file:
- * the heap's words, the lists, joining, the numbered steps, resizing, the
- * audit, the calls. A call checks shape, then its number, then the whole heap,
- * and only then writes; from there on every offset read from the arena is
- * known to be a chunk.
+ * Document 01's heap, with requests (i) and (vi) of document 02. The order of
+ * the file: the heap's words, the lists, joining, the numbered steps, resizing,
+ * the audit, the calls. A call checks shape, then its number, then the whole
+ * heap, and only then writes; from there on every offset read from the arena
+ * is known to be a chunk.
  */
 #include "heap2.h"
 
@@ -17,6 +17,7 @@
 #define CACHE_MAX 1040u
 #define CACHE_DEPTH 7u
 #define FAST_MAX 128u
+#define CONSOLIDATE_MIN 65536u
 #define LARGE_MIN 1024u
 #define REQUEST_MAX 262144u
 
@@ -345,24 +346,31 @@ static void consolidate(struct heap *h)
             join(h, c);
 }
 
-/* Answers the size of what the joining yielded, 0 if there was none. */
-static uint32_t release_past_cache(struct heap *h, uint32_t c)
+/*
+ * Document 02, (vi): a joining that yields so much, the top included, has the
+ * fast chunks joined too. Answers whether it did so.
+ */
+static bool release_past_cache(struct heap *h, uint32_t c)
 {
     uint32_t size = size_of(h, c);
-    if (size > FAST_MAX)
-        return join(h, c);
-    fast_push(h, fast_of(size), c);
-    return 0;
+    if (size <= FAST_MAX) {
+        fast_push(h, fast_of(size), c);
+        return false;
+    }
+    if (join(h, c) < CONSOLIDATE_MIN || !some_fast(h))
+        return false;
+    REACHED(JOIN_CONSOLIDATES);
+    consolidate(h);
+    return true;
 }
 
-static void release(struct heap *h, uint32_t c)
+static bool release(struct heap *h, uint32_t c)
 {
-    uint32_t size = size_of(h, c), joined = 0;
-    if (cache_has_room(h, size))
-        cache_push(h, cache_of(size), c);
-    else
-        joined = release_past_cache(h, c);
-    RELEASED(joined);
+    uint32_t size = size_of(h, c);
+    if (!cache_has_room(h, size))
+        return release_past_cache(h, c);
+    cache_push(h, cache_of(size), c);
+    return false;
 }
 
 /*
@@ -572,7 +580,9 @@ static uint32_t steps_2_to_9(struct heap *h, uint32_t b)
 
 /*
  * Gives a block its new size: the bytes up to size are its own and in no list.
- * A rest under 32 stays with it, a longer one is released as a block is.
+ * A rest under 32 stays with it, a longer one is released as a block is. That
+ * release may consolidate, and clears the block's own P where the chunk before
+ * it was fast.
  */
 static void cut_to(struct heap *h, uint32_t c, uint32_t size, uint32_t b)
 {
@@ -588,7 +598,8 @@ static void cut_to(struct heap *h, uint32_t c, uint32_t size, uint32_t b)
             : size - b <= FAST_MAX        ? RESIZE_REST_FAST
             : c + size == get(h, TOP)     ? RESIZE_REST_TOP
                                           : RESIZE_REST_JOINED);
-    release(h, c + b);
+    if (release(h, c + b))
+        REACHED(RESIZE_REST_CONSOLIDATES);
 }
 
 static bool stays(struct heap *h, uint32_t c, uint32_t b)
@@ -656,7 +667,8 @@ static uint32_t moves(struct heap *h, uint32_t c, uint32_t b)
     }
     REACHED(RESIZE_COPIED);
     memcpy(h->arena + mem_of(found), h->arena + mem_of(c), size - 8);
-    release(h, c);
+    if (release(h, c))
+        REACHED(RESIZE_OLD_CONSOLIDATES);
     return found;
 }
 
@@ -934,7 +946,6 @@ struct second_answer second_resize(uint8_t *arena, size_t arena_len,
     if (mem != 0 && !live(&h, &m, mem))
         return answer(NOT_LIVE);
 
-    RELEASED(0);
     if (mem == 0)
         return grant(&h, n);
     if (n == 0) {
@@ -957,7 +968,8 @@ struct second_answer second_settle(uint8_t *arena, size_t arena_len,
 
     for (unsigned k = 0; k < CACHE_LISTS; k++)
         while ((c = cache_take(&h, k)) != NONE)
-            release_past_cache(&h, c);
+            if (release_past_cache(&h, c))
+                REACHED(SETTLE_CONSOLIDATES);
     consolidate(&h);
     put(&h, LAST_REMAINDER, NONE);
     return answer(GRANTED);

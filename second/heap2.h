@@ -1,6 +1,6 @@
 /*
- * The second program: document 01's heap in plain C, with request (i) of
- * document 02, written from the documents alone, so that another
+ * The second program: document 01's heap in plain C, with requests (i) and
+ * (vi) of document 02, written from the documents alone, so that another
  * implementation can be held against it.
  *
  * Each call works on an arena (lent bytes) and its control record (1,572

@@ -1,7 +1,8 @@
 /*
  * Runs a heaplog script from standard input and prints, line for line, what
- * document 01's heaplog prints, with document 02's Z for a resize. Input is fed byte by byte to a line of fixed
- * size, so a script, and a line, may be of any length.
+ * document 01's heaplog prints, with document 02's Z for a resize. Input is fed
+ * byte by byte to a line of fixed size, so a script, and a line, may be of any
+ * length.
  *
  * The exit status is 0 unless reading or writing itself fails.
  */

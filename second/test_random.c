@@ -3,7 +3,8 @@
  * heaps, with holders that write random bytes in their blocks. After every
  * call the heap is audited and held against a model that knows only which
  * blocks were granted and what their holders wrote. A resize is also put
- * together from other calls on a copy, and every byte compared.
+ * together from other calls on a copy, and every byte compared; what a release
+ * leaves in the fast lists is told by the tiles before it.
  */
 #include <stdio.h>
 #include <stdlib.h>
@@ -32,6 +33,7 @@ struct model {
     uint32_t grant_percent;
     uint32_t calls, refused[6];
     uint32_t resizes, moved, by_parts; /* resizes of held blocks; of any */
+    uint32_t consolidated;             /* releases that joined fast chunks */
 };
 
 static struct plain_view view;
@@ -204,6 +206,42 @@ static void after_settle(struct model *m)
     give_back(&fresh);
 }
 
+/* The size of a free neighbour that is joined, else 0. */
+static uint32_t joined(const struct plain_tile *t)
+{
+    return t->state == PLAIN_BINNED || t->state == PLAIN_TOP ? t->size : 0;
+}
+
+/*
+ * Document 02, (vi): no fast list holds a chunk after a joining that yields
+ * 65,536. Otherwise a release changes at most the one on which it pushes.
+ */
+static void fast_lists_after_release(struct model *m, uint32_t mem)
+{
+    const struct lent *l = &m->before;
+    uint32_t i = 0, whole = 0, filled = 0;
+
+    plain_read(&view, l->arena, (uint32_t)l->length, l->record);
+    while (view.tile[i].at != mem - 16)
+        i++;
+    const struct plain_tile *t = &view.tile[i];
+    unsigned own = (t->size - 32) / 16;
+    bool cached = own < 64 && plain_word(l->record, plain_cache_count(own)) < 7;
+    if (!cached && t->size > 128)
+        whole = t->size + joined(t + 1) + (i > 0 ? joined(t - 1) : 0);
+    for (unsigned k = 0; k < 10; k++) {
+        uint32_t head = plain_word(l->record, plain_fast_head(k));
+        filled += head != PLAIN_NONE32;
+        if (whole >= 65536)
+            head = PLAIN_NONE32;
+        else if (k == own && !cached && t->size <= 128)
+            head = t->at;
+        EXPECT(m, plain_word(m->heap.record, plain_fast_head(k)) == head,
+               "a release leaves a fast list otherwise than it should");
+    }
+    m->consolidated += whole >= 65536 && filled > 0;
+}
+
 /* ---- the calls ---- */
 
 static uint64_t random_request(struct model *m)
@@ -263,6 +301,7 @@ static void call_release(struct model *m, uint64_t mem)
     EXPECT(m, a.no == (held || mem == 0 ? 0 : 4), "a release answers wrongly");
     if (held) {
         EXPECT(m, a.mem == 0 && a.usable == 0, "a release hands numbers back");
+        fast_lists_after_release(m, (uint32_t)mem);
         let_go(m, i);
     } else {
         refused(m, a); /* null is no refusal, but writes nothing either */
@@ -343,6 +382,7 @@ static void call_resize(struct model *m, uint64_t mem, uint64_t n)
         hold(m, a.mem, a.usable);
     } else if (n == 0) {
         EXPECT(m, a.mem == 0 && a.usable == 0, "a release hands numbers back");
+        fast_lists_after_release(m, (uint32_t)mem);
         let_go(m, i);
     } else {
         resized(m, i, n, a);
@@ -436,7 +476,7 @@ static void random_call(struct model *m)
 
 /* What all models of a group did. */
 struct sums {
-    uint64_t calls, refused[6], resizes, moved, by_parts;
+    uint64_t calls, refused[6], resizes, moved, by_parts, consolidated;
 };
 
 static void add_counts(struct sums *sum, const struct model *m)
@@ -447,6 +487,7 @@ static void add_counts(struct sums *sum, const struct model *m)
     sum->resizes += m->resizes;
     sum->moved += m->moved;
     sum->by_parts += m->by_parts;
+    sum->consolidated += m->consolidated;
 }
 
 static void tell_counts(const struct sums *sum)
@@ -456,9 +497,11 @@ static void tell_counts(const struct sums *sum)
            (unsigned long long)sum->refused[2],
            (unsigned long long)sum->refused[4],
            (unsigned long long)sum->refused[5]);
-    remark("; %llu blocks resized, %llu of them moved; %llu resizes by parts",
+    remark("; %llu blocks resized, %llu of them moved; %llu resizes by parts; "
+           "%llu releases consolidated",
            (unsigned long long)sum->resizes, (unsigned long long)sum->moved,
-           (unsigned long long)sum->by_parts);
+           (unsigned long long)sum->by_parts,
+           (unsigned long long)sum->consolidated);
 }
 
 static void sequences(const char *name, bool opened, uint32_t most,
@@ -567,6 +610,105 @@ static void between_fast_chunks(uint32_t rounds)
         add_counts(&sum, &m);
         model_free(&m);
     }
+    tell_counts(&sum);
+}
+
+/* ---- releases of much, with fast chunks about ---- */
+
+/* Chunk sizes on both sides of 65,536, now and then far below. */
+static uint32_t much(struct model *m)
+{
+    return random_chance(&m->r, 70) ? 65488 + 16 * random_below(&m->r, 14)
+                                    : 1056 + 16 * random_below(&m->r, 2000);
+}
+
+/*
+ * Large blocks, each between two of n, and seven more of n that fill their
+ * cache list. What is then released or made shorter is joined with what was
+ * joined before, with the top at times, and some of the others are fast.
+ */
+static void release_much(struct model *m)
+{
+    uint32_t n = random_below(&m->r, 121), filler[7], block[9], blocks = 0;
+    uint32_t count = 1 + random_below(&m->r, 4);
+
+    for (uint32_t i = 0; i < 7; i++)
+        filler[i] = granted(m, n);
+    for (uint32_t i = 0; i < count; i++) {
+        block[blocks++] = granted(m, n);
+        block[blocks++] = granted(m, much(m) - 8);
+    }
+    block[blocks++] = granted(m, n);
+    if (random_chance(&m->r, 50))
+        shorten_top(m);
+    for (uint32_t i = 0; i < 7 && !group_failed(); i++)
+        released(m, filler[i]);
+    while (blocks > 0 && !group_failed()) {
+        uint32_t drawn = random_below(&m->r, blocks);
+        uint32_t i = find(m, block[drawn]);
+        copy_lent(&m->before, &m->heap);
+        if (i == m->blocks || random_chance(&m->r, 70)) {
+            call_release(m, block[drawn]);
+            block[drawn] = block[--blocks];
+        } else {
+            uint32_t most = random_chance(&m->r, 70) ? 100 : m->block[i].usable;
+            call_resize(m, block[drawn], 1 + random_below(&m->r, most));
+        }
+        m->calls++;
+    }
+}
+
+/*
+ * A small block behind a large free chunk, of which its resize takes the front
+ * and then joins the block with what is left.
+ */
+static void move_out_of_much(struct model *m)
+{
+    uint32_t n = 121 + random_below(&m->r, 800), filler[7];
+    uint32_t small = random_below(&m->r, 121), fast[8];
+
+    for (uint32_t i = 0; i < 7; i++)
+        filler[i] = granted(m, n);
+    for (uint32_t i = 0; i < 8; i++)
+        fast[i] = granted(m, small);
+    granted(m, 24);
+    uint32_t large = granted(m, much(m) - 8);
+    uint32_t block = granted(m, n);
+    granted(m, 24);
+    for (uint32_t i = 0; i < 7 && !group_failed(); i++)
+        released(m, filler[i]);
+    released(m, large);
+    for (uint32_t i = 0; i < 8 && !group_failed(); i++)
+        released(m, fast[i]);
+    copy_lent(&m->before, &m->heap);
+    if (!group_failed())
+        call_resize(m, block, n + 16 + random_below(&m->r, 100));
+    m->calls++;
+}
+
+static void among_fast_chunks(uint32_t rounds)
+{
+    struct sums sum = { 0 };
+
+    group("releases of much, and resizes, with fast chunks about");
+    for (uint64_t seed = 1; seed <= rounds && !group_failed(); seed++) {
+        struct random r = { ~seed << 32 };
+        uint32_t length = 65536 + 16 * random_below(&r, 12289);
+        struct model m = model_of_length(r, seed, length);
+        random_bytes(&m.r, m.heap.arena, m.heap.length);
+        lent_open(&m.heap);
+        if (random_chance(&m.r, 70))
+            release_much(&m);
+        else
+            move_out_of_much(&m);
+        if (!group_failed()) {
+            copy_lent(&m.before, &m.heap);
+            call_settle(&m);
+        }
+        add_counts(&sum, &m);
+        model_free(&m);
+    }
+    CHECK(sum.consolidated > 0, "no release consolidated");
     tell_counts(&sum);
 }
 
@@ -690,6 +832,7 @@ int main(int argc, char **argv)
     sequences("random calls from random large heaps", false, PLAIN_ARENA_MAX,
               600 / share, 12);
     between_fast_chunks(4000 / share);
+    among_fast_chunks(600 / share);
     twins(400 / share);
     return finish();
 }

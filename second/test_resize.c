@@ -1,7 +1,7 @@
 /*
  * Request (i) of document 02: a trace for each way a resize can go, at and
- * beside its boundary. Every expected number here was worked out by hand from
- * the documents.
+ * beside its boundary, with what request (vi) changes of it. Every expected
+ * number here was worked out by hand from the documents.
  */
 #include <string.h>
 
@@ -720,6 +720,126 @@ static void step_5_past_the_cache(void)
     stop();
 }
 
+/* ---- document 02, (vi): what it releases yields 65,536 ---- */
+
+/*
+ * Eight blocks of 32, then one of that size at 256, then a live one of 32
+ * unless the top is to be behind it. The first seven are cached.
+ */
+static void start_behind_eight(uint32_t length, uint32_t size, bool fence)
+{
+    start(length);
+    grants_row(8, 24, 16, 32);
+    grants(size - 8, 272, size - 8);
+    if (fence)
+        grants(24, 272 + size, 24);
+    releases_row(7, 16, 32);
+    fill(272, 24);
+}
+
+/*
+ * The block at 256 has 112 bytes and its rest is at 368. Joined and binned,
+ * the fast chunk at 224 leaves the block's P clear.
+ */
+static void rest_was_released(bool fast, bool consolidated, bool unsorted)
+{
+    filled(272, 24);
+    eight_is(256 + 8, consolidated ? 112 : 112 + 1);
+    fast_is(0, fast && !consolidated ? 224 : NONE);
+    cache_is(0, 192, 7);
+    if (consolidated) {
+        eight_is(256, 32);
+        bin_is(1, 224, unsorted ? 368 : 224);
+    } else {
+        bin_is(1, unsorted ? 368 : NONE, unsorted ? 368 : NONE);
+    }
+}
+
+static void rest_yields(uint32_t size, bool fast)
+{
+    bool consolidates = fast && size == 65536;
+
+    start_behind_eight(131072, 112 + size, true); /* large enough */
+    if (fast)
+        releases(240);
+    resizes(272, 100, 272, 104);
+    rest_was_released(fast, consolidates, true);
+    eight_is(368 + 8, size + 1);
+    eight_is(368 + size, size);
+    eight_is(368 + size + 8, 32);
+    resizes(272, 104, 272, 104); /* P stays as it then is */
+    eight_is(256 + 8, consolidates ? 112 : 112 + 1);
+    stop();
+
+    start_behind_eight(368 + size, 1216, false); /* the rest becomes top */
+    if (fast)
+        releases(240);
+    resizes(272, 100, 272, 104);
+    rest_was_released(fast, consolidates, false);
+    top_is(368, 368 + size);
+    stop();
+
+    start_behind_eight(131072, 32, false); /* with the chunk behind it */
+    grants(size + 72, 304, size + 72);
+    grants(40, 384 + size, 40);
+    releases(304);
+    bin_is(1, 288, 288);
+    if (fast)
+        releases(240);
+    resizes(272, 100, 272, 104);
+    rest_was_released(fast, consolidates, true);
+    eight_is(368 + 8, size + 1);
+    stop();
+}
+
+static void rest_consolidates(void)
+{
+    group("resize: a rest that yields 65,536 consolidates, 65,520 does not");
+    for (uint32_t size = 65520; size <= 65536; size += 16) {
+        rest_yields(size, true);
+        rest_yields(size, false);
+    }
+}
+
+/*
+ * Seven of 208 and seven of 32 cached, the one at 1,680 fast. The block of 208
+ * stands behind a free chunk, whose front becomes its new place; released, it
+ * is joined with what is left of that.
+ */
+static void old_block_yields(uint32_t size)
+{
+    uint32_t old = 1744 + size + 16; /* the free chunk has 16 more than that */
+
+    start(262144);
+    grants_row(7, 200, 16, 208);
+    grants_row(9, 24, 1472, 32);
+    grants(size + 8, 1760, size + 8);
+    grants(200, old + 16, 200);
+    grants(24, old + 224, 24);
+    fill(old + 16, 200);
+    releases_row(7, 16, 208);
+    releases_row(7, 1472, 32);
+    releases(1760);
+    releases(1696);
+    fast_is(0, 1680);
+    resizes(old + 16, 216, 1760, 216);
+    filled(1760, 200);
+    cache_is(11, 1248, 7);
+    fast_is(0, size == 65536 ? NONE : 1680);
+    bin_is(1, size == 65536 ? 1680 : 1968, 1968);
+    eight_is(1712 + 8, size == 65536 ? 32 : 32 + 1);
+    eight_is(1968 + 8, size + 1);
+    word_is("last remainder", 2, 1968);
+    stop();
+}
+
+static void old_block_consolidates(void)
+{
+    group("resize: an old block that yields 65,536 consolidates");
+    old_block_yields(65520);
+    old_block_yields(65536);
+}
+
 int main(void)
 {
     null_and_zero();
@@ -741,5 +861,7 @@ int main(void)
     step_2_past_the_cache();
     step_3_past_the_cache();
     step_5_past_the_cache();
+    rest_consolidates();
+    old_block_consolidates();
     return finish();
 }

@@ -1,6 +1,7 @@
 /*
  * Document 01's figures, and traces for the places that are easy to get
- * wrong. Every expected number here was worked out by hand from the document.
+ * wrong, with those of request (vi) of document 02. Every expected number here
+ * was worked out by hand from the documents.
  */
 #include <string.h>
 
@@ -518,6 +519,228 @@ static void settle_clears_the_remainder(void)
     stop();
 }
 
+/* ---- document 02, (vi): a joining of 65,536 consolidates ---- */
+
+/*
+ * Nine blocks of 32 and behind them, at 288, one of the given size. Seven of
+ * the nine are cached; the eighth is at 224, and the ninth keeps it apart from
+ * what is behind.
+ */
+static void start_behind_nine(uint32_t length, uint32_t size)
+{
+    start(length);
+    for (uint32_t i = 0; i < 9; i++)
+        grants(24, 32 * i + 16, 24);
+    grants(size - 8, 304, size - 8);
+    for (uint32_t i = 0; i < 7; i++)
+        releases(32 * i + 16);
+    cache_is(0, 192, 7);
+    fast_is(0, NONE);
+}
+
+/* The whole at 288 is in unsorted, or else has become top. */
+static void eighth_was_joined(bool unsorted)
+{
+    fast_is(0, NONE);
+    bin_is(1, 224, unsorted ? 288 : 224);
+    eight_is(224 + 8, 32 + 1);
+    eight_is(224 + 16, unsorted ? 288 : PLAIN_NONE64);
+    eight_is(224 + 24, PLAIN_NONE64);
+    eight_is(256, 32);
+    eight_is(256 + 8, 32);
+    cache_is(0, 192, 7);
+}
+
+/* The eighth is fast, or live, as it was before the release. */
+static void eighth_was_left(bool fast, bool unsorted)
+{
+    fast_is(0, fast ? 224 : NONE);
+    bin_is(1, unsorted ? 288 : NONE, unsorted ? 288 : NONE);
+    eight_is(224 + 8, 32 + 1);
+    eight_is(256 + 8, 32 + 1);
+    cache_is(0, 192, 7);
+}
+
+static void joining_yields(uint32_t size, bool fast)
+{
+    bool consolidates = fast && size == 65536;
+
+    start_behind_nine(131072, size);
+    grants(40, 288 + size + 16, 40);
+    if (fast)
+        releases(240);
+    releases(304);
+    if (consolidates)
+        eighth_was_joined(true);
+    else
+        eighth_was_left(fast, true);
+    eight_is(288 + 8, size + 1);
+    eight_is(288 + 24, consolidates ? 224 : PLAIN_NONE64);
+    eight_is(288 + size, size);
+    eight_is(288 + size + 8, 48);
+    word_is("top", 1, 288 + size + 48);
+    stop();
+}
+
+/* The block is of 1,120; it and the top behind it are of that size. */
+static void joining_with_top_yields(uint32_t size, bool fast)
+{
+    start_behind_nine(288 + size, 1120);
+    if (fast)
+        releases(240);
+    releases(304);
+    if (fast && size == 65536)
+        eighth_was_joined(false);
+    else
+        eighth_was_left(fast, false);
+    word_is("top", 1, 288);
+    eight_is(288 + 8, size + 1);
+    stop();
+}
+
+/* A block of 1,120 behind a binned chunk, and before another or the top. */
+static void joining_with_both_yields(uint32_t size, bool fast, bool with_top)
+{
+    uint32_t behind = size - 32208 - 1120;
+
+    start_behind_nine(with_top ? 288 + size : 131072, 32208);
+    grants(1112, 32512, 1112);
+    if (!with_top) {
+        grants(behind - 8, 33632, behind - 8);
+        grants(40, 288 + size + 16, 40);
+        releases(33632);
+    }
+    releases(304);
+    if (fast)
+        releases(240);
+    fast_is(0, fast ? 224 : NONE); /* neither half yields so much */
+    releases(32512);
+    if (fast && size == 65536)
+        eighth_was_joined(!with_top);
+    else
+        eighth_was_left(fast, !with_top);
+    eight_is(288 + 8, size + 1);
+    word_is("top", 1, with_top ? 288 : 288 + size + 48);
+    stop();
+}
+
+static void large_joinings(void)
+{
+    group("a release that yields 65,536 consolidates, one of 65,520 does not");
+    for (uint32_t size = 65520; size <= 65536; size += 16)
+        for (unsigned fast = 0; fast <= 1; fast++) {
+            joining_yields(size, fast);
+            joining_with_top_yields(size, fast);
+            joining_with_both_yields(size, fast, false);
+            joining_with_both_yields(size, fast, true);
+        }
+}
+
+/* The ninth is the fast one, right before what is joined. */
+static void fast_chunk_beside(void)
+{
+    group("a fast chunk beside the whole is joined with it");
+    start_behind_nine(131072, 65536);
+    grants(40, 65840, 40);
+    releases(272);
+    releases(304);
+    fast_is(0, NONE);
+    bin_is(1, 256, 256);
+    eight_is(256 + 8, 65568 + 1);
+    eight_is(288 + 8, 65536 + 1); /* the header inside the whole stays */
+    eight_is(65824, 65568);
+    eight_is(65824 + 8, 48);
+    stop();
+
+    start_behind_nine(65824, 1120); /* and with the top */
+    releases(272);
+    releases(304);
+    fast_is(0, NONE);
+    bin_is(1, NONE, NONE);
+    word_is("top", 1, 256);
+    eight_is(256 + 8, 65568 + 1);
+    stop();
+}
+
+/* Beside a top of more than 65,536, with a fast chunk about. */
+static void pushes(void)
+{
+    group("a push on a cache or fast list never consolidates");
+    start_behind_nine(131072, 1040);
+    releases(240);
+    releases(304);
+    cache_is(63, 288, 1);
+    eighth_was_left(true, false);
+    word_is("top", 1, 1328);
+    stop();
+
+    start_behind_nine(131072, 32);
+    releases(240);
+    releases(304);
+    fast_is(0, 288);
+    eight_is(288 + 16, 224);
+    eight_is(256 + 8, 32 + 1);
+    bin_is(1, NONE, NONE);
+    cache_is(0, 192, 7);
+    word_is("top", 1, 320);
+    stop();
+}
+
+/* Fast list 0 is joined with the top, which yields 130,464, then list 1. */
+static void consolidation_yields(void)
+{
+    group("a consolidation joins each fast chunk once, whatever it yields");
+    start(131072);
+    for (uint32_t i = 0; i < 8; i++)
+        grants(40, 48 * i + 16, 40);
+    for (uint32_t i = 0; i < 8; i++)
+        grants(24, 32 * i + 400, 24);
+    for (uint32_t i = 0; i < 8; i++) {
+        releases(48 * i + 16);
+        releases(32 * i + 400);
+    }
+    fast_is(0, 608);
+    fast_is(1, 336);
+    grants(1112, 624, 1112); /* step 4, and step 9 from the top at 608 */
+    fast_is(0, NONE);
+    fast_is(1, NONE);
+    bin_is(1, NONE, NONE);
+    bin_is(3, 336, 336);
+    cache_is(0, 576, 7);
+    cache_is(1, 288, 7);
+    word_is("top", 1, 1728);
+    stop();
+}
+
+/*
+ * Emptied in the order of the lists: 0 to a fast list; 416 into the top, of
+ * which the top becomes so long that 0 is joined; 64, so before 0 in unsorted.
+ * With 16 bytes less, 0 is joined at the end.
+ */
+static void settle_halfway(void)
+{
+    group("a settle whose emptying yields 65,536 consolidates halfway");
+    for (uint32_t size = 65520; size <= 65536; size += 16) {
+        start(416 + size);
+        grants(24, 16, 24);
+        grants(24, 48, 24);
+        grants(312, 80, 312);
+        grants(24, 400, 24);
+        grants(200, 432, 200);
+        releases(16);
+        releases(80);
+        releases(432);
+        cache_is(0, 0, 1);
+        cache_is(18, 64, 1);
+        cache_is(11, 416, 1);
+        settles();
+        bin_is(1, size == 65536 ? 64 : 0, size == 65536 ? 0 : 64);
+        word_is("top", 1, 416);
+        eight_is(416 + 8, size + 1);
+        stop();
+    }
+}
+
 int main(void)
 {
     request_sizes();
@@ -536,5 +759,10 @@ int main(void)
     refused_leaves_its_steps();
     fast_moves_reversed();
     settle_clears_the_remainder();
+    large_joinings();
+    fast_chunk_beside();
+    pushes();
+    consolidation_yields();
+    settle_halfway();
     return finish();
 }

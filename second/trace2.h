@@ -36,6 +36,8 @@
     PLACE(JOIN_AFTER, "join with the chunk after")                            \
     PLACE(JOIN_BOTH, "join with both")                                        \
     PLACE(JOIN_TOP, "join with the top")                                      \
+    PLACE(JOIN_CONSOLIDATES, "a joining of 65,536 or more consolidates")      \
+    PLACE(SETTLE_CONSOLIDATES, "settle: a joining consolidates halfway")      \
     PLACE(RESIZE_STAYS, "resize: large enough, nothing cut off")              \
     PLACE(RESIZE_SHRINKS, "resize: large enough, a rest cut off")             \
     PLACE(RESIZE_TOP, "resize: takes from the top")                           \
@@ -51,7 +53,9 @@
     PLACE(RESIZE_REST_CACHED, "resize: the rest is cached")                   \
     PLACE(RESIZE_REST_FAST, "resize: the rest goes on a fast list")           \
     PLACE(RESIZE_REST_JOINED, "resize: the rest goes in unsorted")            \
-    PLACE(RESIZE_REST_TOP, "resize: the rest becomes top")
+    PLACE(RESIZE_REST_TOP, "resize: the rest becomes top")                    \
+    PLACE(RESIZE_REST_CONSOLIDATES, "resize: joining its rest consolidates")  \
+    PLACE(RESIZE_OLD_CONSOLIDATES, "resize: joining the old one consolidates")
 
 #define SECOND_PLACE_NAME(place, text) place,
 enum second_place { SECOND_PLACES(SECOND_PLACE_NAME) SECOND_PLACE_COUNT };
@@ -59,8 +63,6 @@ enum second_place { SECOND_PLACES(SECOND_PLACE_NAME) SECOND_PLACE_COUNT };
 
 struct second_trace {
     uint64_t reached[SECOND_PLACE_COUNT];
-    uint32_t released; /* what the joining in the last call that released
-                          yielded, or 0; a resize that released nothing: 0 */
 };
 
 /* Exists in a build with SECOND_TRACE only. */
@@ -68,10 +70,8 @@ extern struct second_trace second_trace;
 
 #ifdef SECOND_TRACE
 #define REACHED(place) (second_trace.reached[place]++)
-#define RELEASED(size) (second_trace.released = (size))
 #else
 #define REACHED(place) ((void)0)
-#define RELEASED(size) ((void)(size))
 #endif
 
 #endif

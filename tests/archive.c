@@ -72,6 +72,7 @@ int main(int argc, char **argv)
     sequences("random calls in the smallest arenas", 32, 256, 150 * times, 60);
     in_turn(10 * times);
     between_fast_chunks(4000 * times);
+    among_fast_chunks(300 * times);
     equal_sizes(120 * times);
     sound_heaps("random sound heaps up to 8,192", 8192, 8000 * times);
     sound_heaps("random sound heaps up to 262,144", 262144, 200 * times);

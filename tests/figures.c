@@ -204,7 +204,40 @@ void traces(void)
           "8G0 G40 G0 R16 R48 R80 R112 R144 R176 R208 R240 R320 2Z272,80", 0,
           272, 88, 1, 352 },
         { "null is granted, a length of 0 releases", 256, "Z0,24 Z16,0", 0, 0,
-          0, 67, 1 }
+          0, 67, 1 },
+        { "a joining of 65,536 joins the fast chunk too", 131072,
+          "9G24 G65528 G24 R16 R48 R80 R112 R144 R176 R208 R240 R304", 0, 0,
+          0, 131, PLAIN_NONE32 },
+        { "one of 65,520 leaves it fast", 131072,
+          "9G24 G65512 G24 R16 R48 R80 R112 R144 R176 R208 R240 R304", 0, 0,
+          0, 131, 224 },
+        { "the top counts: 65,536 with it", 65824,
+          "9G24 G1112 R16 R48 R80 R112 R144 R176 R208 R240 R304", 0, 0, 0,
+          131, PLAIN_NONE32 },
+        { "65,520 with it", 65808,
+          "9G24 G1112 R16 R48 R80 R112 R144 R176 R208 R240 R304", 0, 0, 0,
+          131, 224 },
+        { "a push never joins the fast chunk, whatever is behind it", 131072,
+          "9G24 G1032 R16 R48 R80 R112 R144 R176 R208 R240 R304", 0, 0, 0,
+          131, 224 },
+        { "a settle's emptying consolidates halfway", 65952,
+          "2G24 G312 G24 G200 R16 R80 R432 S", 0, 0, 0, 141, 64 },
+        { "with 16 bytes less at its end", 65936,
+          "2G24 G312 G24 G200 R16 R80 R432 S", 0, 0, 0, 141, 0 },
+        { "the rest of a resized block yields 65,536", 131072,
+          "8G24 G65640 G24 R16 R48 R80 R112 R144 R176 R208 R240 Z272,100", 0,
+          272, 104, 131, PLAIN_NONE32 },
+        { "or 65,520", 131072,
+          "8G24 G65624 G24 R16 R48 R80 R112 R144 R176 R208 R240 Z272,100", 0,
+          272, 104, 131, 224 },
+        { "the old place of a moved block yields 65,536", 262144,
+          "7G200 9G24 G65544 G200 G24 R16 R224 R432 R640 R848 R1056 R1264 "
+          "R1472 R1504 R1536 R1568 R1600 R1632 R1664 R1760 R1696 Z67312,216",
+          0, 1760, 216, 131, PLAIN_NONE32 },
+        { "or 65,520", 262144,
+          "7G200 9G24 G65528 G200 G24 R16 R224 R432 R640 R848 R1056 R1264 "
+          "R1472 R1504 R1536 R1568 R1600 R1632 R1664 R1760 R1696 Z67296,216",
+          0, 1760, 216, 131, 1680 }
     };
 
     group("traces of places that are easy to get wrong");

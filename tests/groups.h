@@ -32,6 +32,7 @@ void sequences(const char *name, uint32_t from, uint32_t to, uint32_t rounds,
                uint32_t calls);
 void in_turn(uint32_t rounds);
 void between_fast_chunks(uint32_t rounds);
+void among_fast_chunks(uint32_t rounds);
 void equal_sizes(uint32_t rounds);
 void sound_heaps(const char *name, uint32_t most, uint32_t rounds);
 void harmed_heaps(const char *name, harm *do_harm, uint64_t seeds,

@@ -171,6 +171,98 @@ void between_fast_chunks(uint32_t rounds)
     tell_calls(&before);
 }
 
+/* Chunk sizes on both sides of 65,536, now and then far below. */
+static uint32_t much(struct model *m)
+{
+    return random_chance(&m->p.r, 70)
+        ? 65488 + 16 * random_below(&m->p.r, 14)
+        : 1056 + 16 * random_below(&m->p.r, 2000);
+}
+
+/*
+ * Large blocks, each between two of n, and seven more of n that fill their
+ * cache list. What is then released or made shorter is joined with what was
+ * joined before, with the top at times, and some of the others are fast.
+ */
+static void release_much(struct model *m)
+{
+    struct random *r = &m->p.r;
+    uint32_t n = random_below(r, 121), filler[7], block[9], blocks = 0;
+    uint32_t count = 1 + random_below(r, 4);
+
+    for (uint32_t i = 0; i < 7; i++)
+        filler[i] = model_grant(m, n);
+    for (uint32_t i = 0; i < count; i++) {
+        block[blocks++] = model_grant(m, n);
+        block[blocks++] = model_grant(m, much(m) - 8);
+    }
+    block[blocks++] = model_grant(m, n);
+    if (random_chance(r, 50))
+        shorten_top(m);
+    for (uint32_t i = 0; i < 7 && !group_failed(); i++)
+        model_release(m, filler[i]);
+    while (blocks > 0 && !group_failed()) {
+        uint32_t drawn = random_below(r, blocks), mem = block[drawn];
+        uint32_t usable = m->usable_at[mem / 16];
+        if (usable > 0 && random_chance(r, 30)) {
+            model_resize(m, mem, 1 + random_below(r, random_chance(r, 70)
+                                                         ? 100 : usable));
+        } else {
+            model_release(m, mem);
+            block[drawn] = block[--blocks];
+        }
+    }
+}
+
+/*
+ * A small block behind a large free chunk, of which its resize takes the front
+ * and then joins the block with what is left.
+ */
+static void move_out_of_much(struct model *m)
+{
+    struct random *r = &m->p.r;
+    uint32_t n = 121 + random_below(r, 800), small = random_below(r, 121);
+    uint32_t filler[7], fast[8];
+
+    for (uint32_t i = 0; i < 7; i++)
+        filler[i] = model_grant(m, n);
+    for (uint32_t i = 0; i < 8; i++)
+        fast[i] = model_grant(m, small);
+    model_grant(m, 24);
+    uint32_t large = model_grant(m, much(m) - 8);
+    uint32_t block = model_grant(m, n);
+    model_grant(m, 24);
+    for (uint32_t i = 0; i < 7 && !group_failed(); i++)
+        model_release(m, filler[i]);
+    model_release(m, large);
+    for (uint32_t i = 0; i < 8 && !group_failed(); i++)
+        model_release(m, fast[i]);
+    if (!group_failed())
+        model_resize(m, block, n + 16 + random_below(r, 100));
+}
+
+void among_fast_chunks(uint32_t rounds)
+{
+    struct tally before = tally;
+
+    group("releases of much, and resizes, with fast chunks about");
+    for (uint64_t i = 1; i <= rounds && !group_failed(); i++) {
+        struct random r = { (8 << 20) + i };
+        uint32_t length = 65536 + 16 * random_below(&r, 12289);
+        struct pair p = pair_new((8 << 20) + i, r, length);
+        open_pair(&p);
+        struct model m = model_of(p);
+        if (random_chance(&m.p.r, 70))
+            release_much(&m);
+        else
+            move_out_of_much(&m);
+        if (!group_failed())
+            model_settle(&m);
+        model_free(&m);
+    }
+    tell_calls(&before);
+}
+
 void equal_sizes(uint32_t rounds)
 {
     struct tally before = tally;

@@ -1,7 +1,8 @@
 /*
  * How much stack a call takes: it runs on a stack of its own that was filled
  * before, and what is no longer filled was used. Random heaps, sound and
- * damaged, of all lengths; the figure in include/heap.h is held against it.
+ * damaged, of all lengths, and some on which what a call joins consolidates;
+ * the figure in include/heap.h is held against it.
  */
 #include "groups.h"
 
@@ -60,10 +61,26 @@ static uint32_t some_live(struct random *r, const struct lent *heap)
     return chosen;
 }
 
-static uint32_t taken(struct random *r, struct lent *heap, enum call call)
+static uint32_t most[AUDIT + 1];
+
+/* The call in hand, on the heap in hand. */
+static void take(uint64_t seed)
 {
     size_t unused = 0;
 
+    memset(stack, PAINT, sizeof stack);
+    on_the_stack(the_call);
+    while (unused < sizeof stack && stack[unused] == PAINT)
+        unused++;
+    uint32_t bytes = (uint32_t)(sizeof stack - unused);
+    most[now.call] = bytes > most[now.call] ? bytes : most[now.call];
+    CHECK(bytes <= HEAP_STACK_BYTES, "seed %llu: %s took %u bytes",
+          (unsigned long long)seed, call_name[now.call], bytes);
+}
+
+static void take_any(struct random *r, struct lent *heap, enum call call,
+                     uint64_t seed)
+{
     now.heap = heap;
     now.call = call;
     now.number = random_below(r, (uint32_t)heap->length);
@@ -71,18 +88,50 @@ static uint32_t taken(struct random *r, struct lent *heap, enum call call)
                                  : random_below(r, (uint32_t)heap->length / 4);
     if ((call == RELEASE || call == RESIZE) && random_chance(r, 80))
         now.number = some_live(r, heap);
-    memset(stack, PAINT, sizeof stack);
-    on_the_stack(the_call);
-    while (unused < sizeof stack && stack[unused] == PAINT)
-        unused++;
-    return (uint32_t)(sizeof stack - unused);
+    take(seed);
+}
+
+/*
+ * Heaps on which what the call joins comes to 65,536 while a fast list holds a
+ * chunk: a release and a resize of the block at 304, a settle.
+ */
+static const struct {
+    enum call call;
+    uint32_t length, grant[12], release[9];
+} consolidating[] = {
+    { RELEASE, 131072,
+      { 24, 24, 24, 24, 24, 24, 24, 24, 24, 65640, 40 },
+      { 16, 48, 80, 112, 144, 176, 208, 240 } },
+    { RESIZE, 131072,
+      { 24, 24, 24, 24, 24, 24, 24, 24, 24, 65640, 40 },
+      { 16, 48, 80, 112, 144, 176, 208, 240 } },
+    { SETTLE, 65952, { 24, 24, 312, 24, 200 }, { 16, 80, 432 } }
+};
+
+static void take_consolidating(unsigned i)
+{
+    struct lent heap = lend(consolidating[i].length, PAINT);
+
+    call_ours(&heap, OPEN, 0, 0);
+    for (const uint32_t *n = consolidating[i].grant; *n != 0; n++)
+        call_ours(&heap, GRANT, *n, 0);
+    for (const uint32_t *mem = consolidating[i].release; *mem != 0; mem++)
+        call_ours(&heap, RELEASE, *mem, 0);
+    now.heap = &heap;
+    now.call = consolidating[i].call;
+    now.number = 304;
+    now.n = 100;
+    take(i);
+    CHECK(plain_word(heap.record, plain_fast_head(0)) == PLAIN_NONE32,
+          "%s did not consolidate", call_name[now.call]);
+    give_back(&heap);
 }
 
 void stack_taken(uint32_t rounds)
 {
-    uint32_t most[AUDIT + 1] = { 0 };
-
     group("no call takes more stack than heap.h says");
+    for (unsigned i = 0; i < 3; i++)
+        take_consolidating(i);
     for (uint64_t i = 1; i <= rounds && !group_failed(); i++) {
         struct random r = { (9 << 20) + i };
         struct pair p = pair_new(i, r, random_length(&r, 262144));
@@ -91,13 +140,8 @@ void stack_taken(uint32_t rounds)
         if (i % 4 == 0)
             damage_field(&p.r, p.ours.arena, (uint32_t)p.ours.length,
                          p.ours.record);
-        for (unsigned call = AUDIT + 1; call-- > OPEN;) {
-            uint32_t bytes = taken(&p.r, &p.ours, call);
-            most[call] = bytes > most[call] ? bytes : most[call];
-            CHECK(bytes <= HEAP_STACK_BYTES,
-                  "seed %llu: %s took %u bytes", (unsigned long long)i,
-                  call_name[call], bytes);
-        }
+        for (unsigned call = AUDIT + 1; call-- > OPEN;)
+            take_any(&p.r, &p.ours, call, i);
         pair_free(&p);
     }
     for (unsigned call = OPEN; call <= AUDIT; call++)

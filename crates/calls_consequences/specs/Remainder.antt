@@ -7,13 +7,13 @@ use Prim.Native.Nat.{ℕ, zero, suc, _+_, _-_, _/_, _%_, _≤_}
 use native.Mathlib.Omega.{arith}
 use lib.Dec.{eqb, ltb, leb}
 use lib.ListN.{length}
-use Rattle.sizes.specs.Limits.{none64, none32, mostCached, cacheRoom, mostFast, large, unsorted, leastChunk, lastBin}
+use Rattle.sizes.specs.Limits.{none64, none32, mostCached, cacheRoom, mostFast, consolidateFrom, large, unsorted, leastChunk, lastBin}
 use Rattle.sizes.specs.Sizes.{cacheOf, fastOf, binOf}
 use Rattle.machine.specs.Lists.{both, hd, lst, some?, cnt}
-use Rattle.machine.specs.Heap.{Heap, cache, fastAt, fast, bin, anyFast?, topOf, topSize, sizeOf, pOf, next, before, binned, binHas}
+use Rattle.machine.specs.Heap.{Heap, stack, cache, fastAt, fast, bin, anyFast?, topOf, topSize, sizeOf, pOf, next, before, binned, binHas}
 use Rattle.machine.specs.Writes.{Write, apply, Ran, ran, heapOf, writes, does, giving, more, _>>=_, _orElse_}
 use Rattle.machine.specs.Primitives.{push, pop, pushCache, linkIn, putFirst, unlink, clearP, setP, toTop, cutTop, setRemainder, widen, trimAt, growTop}
-use Rattle.machine.specs.Release.{absorb, joinNext, putDown, join, releasePast, release, consolidate, settle}
+use Rattle.machine.specs.Release.{absorb, joinNext, putDown, join, drain, drains, consolidate, joined, releasePast, release, settle}
 use Rattle.machine.specs.Grant.{roomFor?, step1, moveFast, step2, takeLast, moveLasts, step3, step4, split, front, behind, sortIn, lone?, splitLone, keep, turnAt, turn, swept, afterTurn, sweep, step5, carve, step8, fit, step6, firstBin, step7, step9, pass, again, from4, seek, grant}
 use Rattle.machine.specs.Resize.{nextP, finish, copies, moved, resize}
 use Rattle.machine.specs.declared.{Got.Got, Got.the-variants.At, Got.the-variants.Nothing, Turn.Turn}
@@ -280,12 +280,29 @@ join-low c h l = low-if (eqb (pOf h c) 0) (absorb (before h c) (before h c) h >>
     rest-low : (q : ℕ) (h : Heap) → h .remainder ≤ none32 → Low (rest q h)
     rest-low q h l = low-then (joinNext q h) (λ h. putDown q h) (joinNext-low q h l) (putDown-low q)
 
+drain-low : (k : ℕ) (l : List ℕ) (h : Heap) → h .remainder ≤ none32 → Low (drain join k l h)
+unfolding drain
+drain-low k [] h i = i
+drain-low k (c ∷ l) h i = low-then (pop k h) (λ h. join c h >>= (λ h. drain join k l h)) i
+    (λ g j. low-then (join c g) (λ h. drain join k l h) (join-low c g j) (λ f m. drain-low k l f m))
+
+drains-low : (n k : ℕ) (h : Heap) → h .remainder ≤ none32 → Low (drains join n k h)
+unfolding drains
+drains-low zero k h l = l
+drains-low (suc n) k h l = low-then (drain join k (stack h k) h) (λ h. drains join n (suc k) h) (drain-low k (stack h k) h l) (λ g i. drains-low n (suc k) g i)
+
+joined-low : (r : Ran ℕ) → Low r → Low (joined r)
+unfolding consolidate
+joined-low (ran h ws s) l = low-if (both (leb consolidateFrom s) (anyFast? h)) (more ws (giving s (consolidate h))) (ran h ws s)
+    (λ e. low-more ws (giving s (consolidate h)) (low-giving s (consolidate h) (drains-low 10 64 h l)))
+    (λ e. l)
+
 release-low : (c : ℕ) (h : Heap) → h .remainder ≤ none32 → Low (release c h)
 unfolding release releasePast
 release-low c h l =
     low-if (both (leb (sizeOf h c) mostCached) (ltb (length (cache h (cacheOf (sizeOf h c)))) cacheRoom)) (giving 0 (pushCache (cacheOf (sizeOf h c)) c h)) (releasePast c h)
     (λ e. l)
-    (λ e. low-if (leb (sizeOf h c) mostFast) (giving 0 (push (fastAt (fastOf (sizeOf h c))) c h)) (join c h) (λ q. l) (λ q. join-low c h l))
+    (λ e. low-if (leb (sizeOf h c) mostFast) (giving 0 (push (fastAt (fastOf (sizeOf h c))) c h)) (joined (join c h)) (λ q. l) (λ q. joined-low (join c h) (join-low c h l)))
 
 pub release-fine : (c : ℕ) (h : Heap) (w : List ℕ) → Fine h → Mem h w → Loose h c → Ends (release c h) w Fine
 release-fine c h w F m lo = fine-of (release-ends h w c (F .good) m lo) (release-low c h (F .low))

@@ -27,6 +27,7 @@ use Rattle.sound.specs.Relation.{Loose}
 use Rattle.sound.specs.Frames.{apply-length}
 use Rattle.sound.specs.Moves.{answerOf}
 use Rattle.sound.specs.Ends.{Ends}
+use Rattle.sound.specs.Below.{OwnP}
 use Rattle.sound.specs.Resize.{standing}
 use Rattle.sound.specs.Live.{But, Resizes, live-loose, resize-resizes, resize-own-p, resize-refused}
 use Rattle.calls.specs.Ways.{grant-shape, grant-request, grant-unsound, release-shape, release-unsound, resize-null, resize-zero, resize-shape}
@@ -140,10 +141,9 @@ module _ (a r : List ℕ) (L : Lent a r) (m n : ℕ) where
           moved = λ ne.
               let o = resizes .moves c (λ e. ne (omega (arith, v .0))) q in
               (ap (λ (f : Heap). live? f (m - 16)) H ∙ not-live g (m - 16) (o .0), ap (λ (j : ℕ). live? h j) at ∙ not-live h c (o .1));
-          own = λ e.
-              ap (λ (f : Heap). pOf f (m - 16)) H
-              ∙ resize-own-p (need n) (need-bounds n .whole) (need-bounds n .least) h (arenaWords a) (lent-sound a r L S .good) (lent-sound a r L S .mem) (m - 16) lo
-              (q ∙ ap At (omega (arith, v .0)));
+          own = λ e. subst (OwnP (m - 16) (pOf (standing (m - 16) (need n) h) (m - 16))) (sym H)
+              (resize-own-p (need n) (need-bounds n .whole) (need-bounds n .least) h (arenaWords a) (lent-sound a r L S .good) (lent-sound a r L S .mem) (m - 16) lo
+              (q ∙ ap At (omega (arith, v .0))));
         }
 
     -- ---- a live block that is resized: what is answered is live, holds n and overlaps no other; it keeps its first bytes; moved or not

@@ -12,6 +12,7 @@ use Rattle.machine.specs.Heap.{Heap, cache, sizeOf, pOf, live?}
 use Rattle.machine.specs.Audit.{sound?, auditOf}
 use Rattle.machine.specs.Calls.{After, after, wordsOf, heapIn}
 use Rattle.machine.specs.declared.Answer.{Answer}
+use Rattle.sound.specs.Drain.{NoFast}
 use Rattle.sound.specs.Resize.{standing}
 
 -- good shape: bytes lent by a caller of C, an arena of an allowed length and a record of 1,572 bytes
@@ -83,9 +84,10 @@ pub record GrantedNew (h g : Heap) (len n mem u : ℕ) : Type 0 where
   pub fresh : live? h (mem - 16) ≡ false
 
 -- ---- the live block at m, resized to n bytes, stands at mem with u usable bytes. It has its first bytes, as many as both have room for. Moved, its old place is
--- live no more, and its new one was not live; not moved, it has its own P as it stood when its size word was written
+-- live no more, and its new one was not live; not moved, it has its own P as it stood when its size word was written, unless the release of its rest has consolidated:
+-- no fast list has a chunk then
 pub record ResizedTo (a r : List ℕ) (m n mem u : ℕ) (x : After) : Type 0 where
   pub block : BlockAt (heapLeft x) (length a) n mem u
   pub bytes : (i : ℕ) → i < sizeOf (heapIn a r) (m - 16) - 8 → i < u → getD (arenaLeft x) (mem + i) 0 ≡ getD a (m + i) 0
   pub moved : (mem ≡ m → ⊥) → (live? (heapLeft x) (m - 16) ≡ false) × (live? (heapIn a r) (mem - 16) ≡ false)
-  pub own : mem ≡ m → pOf (heapLeft x) (m - 16) ≡ pOf (standing (m - 16) (need n) (heapIn a r)) (m - 16)
+  pub own : mem ≡ m → (pOf (heapLeft x) (m - 16) ≡ pOf (standing (m - 16) (need n) (heapIn a r)) (m - 16)) ⊎ NoFast (heapLeft x)

@@ -13,6 +13,10 @@ use Rattle.machine.specs.Heap.{Heap, fastAt, anyFast?}
 use Rattle.primitives.specs.Follow.{Ok}
 use Rattle.primitives.specs.Heads.{fast-some, fast-empty}
 
+-- t is what the fast lists of every heap with the record r say
+abbrev pub Told : List ℕ → Bool → Type 0
+Told r t = (h : Heap) (w : List ℕ) → Ok h w r → t ≡ anyFast? h
+
 abbrev pub From : List ℕ → ℕ → Type 0
 From r k = (h : Heap) (w : List ℕ) → Ok h w r → anyFast? h ≡ any? (drop (fastAt k) (h .stacks))
 
@@ -29,8 +33,8 @@ module _ (r : List ℕ) (k : ℕ) (l : k < 10) (f : From r k) where
       split h w o ∙ ap (λ (l : List ℕ). either (some? l) (any? (drop (suc (fastAt k)) (h .stacks)))) (fast-empty h w r o k l e)
       ∙ ap (λ (i : ℕ). any? (drop i (h .stacks))) n
 
-  pub from-found : (getD r (fastHead k) 0 ≡ none32 → ⊥) → (h : Heap) (w : List ℕ) → Ok h w r → true ≡ anyFast? h
+  pub from-found : (getD r (fastHead k) 0 ≡ none32 → ⊥) → Told r true
   from-found n h w o = sym (split h w o ∙ ap (λ (t : Bool). either t (any? (drop (suc (fastAt k)) (h .stacks)))) (fast-some h w r o k l n))
 
-pub from-end : (r : List ℕ) (k : ℕ) → k ≡ 10 → From r k → (h : Heap) (w : List ℕ) → Ok h w r → false ≡ anyFast? h
+pub from-end : (r : List ℕ) (k : ℕ) → k ≡ 10 → From r k → Told r false
 from-end r k e f h w o = sym (f h w o ∙ ap any? (drop-of-length-le (h .stacks) {i = fastAt k} (omega (arith, o .shape .stacked74))))

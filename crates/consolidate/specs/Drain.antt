@@ -22,8 +22,8 @@ use Rattle.sound.specs.Stacks.{pop-ends}
 use Rattle.sound.specs.Ends.{Ends}
 use Rattle.sound.specs.Moves.{nil, one, any}
 use Rattle.sound.specs.Leaves.{Leaves, Still}
-use Rattle.sound.specs.Release.{Every, join-leaves}
-use Rattle.sound.specs.Settle.{drain-leaves}
+use Rattle.sound.specs.JoinLeaves.{Every, join-leaves}
+use Rattle.sound.specs.Drain.{drain-leaves}
 use Rattle.primitives.specs.Follow.{Ok, Has, Gave, Does}
 use Rattle.primitives.specs.FollowLaws.{gave-ok}
 use Rattle.primitives.specs.Chunks.{list-short, up-hd, walk-list}

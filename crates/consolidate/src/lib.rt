@@ -5,15 +5,15 @@ use sizes::FAST_HEADS;
 use sizes::FAST_LISTS;
 use sizes::NONE32;
 ghost use mathlib.Core.Path.{_≡_};
-ghost use mathlib.Core.List.{List};
-ghost use Prim.Native.Nat.{ℕ, _<_};
+ghost use Prim.Native.Nat.{_<_};
 ghost use lib.ListN.{length};
 ghost use Rattle.le.specs.Arena.{arenaWords};
-ghost use Rattle.machine.specs.Heap.{Heap, fastAt, anyFast?};
+ghost use Rattle.machine.specs.Heap.{fastAt};
 ghost use Rattle.machine.specs.Release.{join, consolidate};
 ghost use Rattle.sound.specs.Relation.{Good};
-ghost use Rattle.primitives.specs.Follow.{Ok, Has, Does};
+ghost use Rattle.primitives.specs.Follow.{Has, Does};
 ghost use Rattle.consolidate.specs.Drain.{drainOf};
+ghost use Rattle.consolidate.specs.AnyFast.{Told};
 
 // Fast list k is emptied from its head, each chunk joined.
 fn drain_fast(a: &mut [u8], r: &mut [u32], k: usize)
@@ -39,7 +39,7 @@ pub fn consolidate(a: &mut [u8], r: &mut [u32])
 
 pub fn any_fast(r: &[u32]) -> bool
     requires { ⌜ length (now r) ≡ 393 ⌝ }
-    ensures { λ t. ⌜ ((h : Heap) (w : List ℕ) → Ok h w (now (r .entry)) → t ≡ anyFast? h) ⌝ }
+    ensures { λ t. ⌜ Told (now (r .entry)) t ⌝ }
 {
     let mut k: usize = 0;
     while k < FAST_LISTS {

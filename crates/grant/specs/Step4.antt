@@ -11,12 +11,9 @@ use Rattle.machine.specs.Writes.{does}
 use Rattle.machine.specs.Release.{consolidate}
 use Rattle.machine.specs.Grant.{step4}
 use Rattle.sound.specs.Relation.{Good}
-use Rattle.primitives.specs.Follow.{Ok, Does}
+use Rattle.primitives.specs.Follow.{Does}
+use Rattle.consolidate.specs.AnyFast.{Told}
 use Rattle.primitives.specs.FollowLaws.{gave-by, gave-none}
-
--- what the code's test of the fast lists says of a heap with this record
-abbrev pub Told : List ℕ → Bool → Type 0
-Told r t = (h : Heap) (w : List ℕ) → Ok h w r → t ≡ anyFast? h
 
 module _ (b : ℕ) (h : Heap) where
   step4-small : b < large → step4 b h ≡ does h []

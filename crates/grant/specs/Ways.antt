@@ -9,14 +9,14 @@ use Rattle.machine.specs.Release.{consolidate}
 use Rattle.machine.specs.Grant.{step1, step2, step3, step4, step5, step6, step7, step9, pass, again, from4, seek, grant}
 use Rattle.machine.specs.declared.{Got.Got, Got.the-variants.At, Got.the-variants.Nothing}
 use Rattle.sound.specs.Relation.{Good}
-use Rattle.sound.specs.Settle.{consolidate-leaves}
+use Rattle.sound.specs.Drain.{consolidate-leaves}
 use Rattle.sound.specs.Small.{step1-leaves, step2-leaves, step3-leaves, step4-leaves}
 use Rattle.sound.specs.Sweep.{step5-leaves}
 use Rattle.sound.specs.Large.{step6-leaves, step7-leaves}
 use Rattle.sound.specs.Grant.{pass-leaves}
 use Rattle.primitives.specs.Follow.{Does}
 use Rattle.primitives.specs.FollowLaws.{gave-by, gave-none}
-use Rattle.grant.specs.Step4.{Told}
+use Rattle.consolidate.specs.AnyFast.{Told}
 use Rattle.grant.specs.Chain.{inTurn, else, Keeps, keeps-found, keeps-else, does-by, then, took, next}
 
 -- ---- the machine's equations

@@ -33,7 +33,8 @@ use Rattle.sound.specs.Ends.{Ends}
 use Rattle.sound.specs.Stacks.{push-ends}
 use Rattle.sound.specs.Moves.{nil, one, any}
 use Rattle.sound.specs.Leaves.{Leaves, Still}
-use Rattle.sound.specs.Release.{Every, stackSize-cache}
+use Rattle.sound.specs.JoinLeaves.{Every}
+use Rattle.sound.specs.Release.{stackSize-cache}
 use Rattle.sound.specs.Take.{takeLast-leaves}
 use Rattle.sound.specs.Small.{some-has}
 use Rattle.primitives.specs.Follow.{Ok, Has, Gave, Does}

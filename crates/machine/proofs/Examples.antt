@@ -226,6 +226,72 @@ refused-p : same? (last-line (outs (script 432 (fast-around ++ Z 272 200 ∷ [])
 unfolding script fast-around heads last-line
 refused-p = refl
 
+-- ---- document 02, (vi): a joining that yields 65,536 or more, and a fast chunk. The fast chunk at 224 goes to unsorted then; its neighbours are cached or live.
+-- behind ls ms: nine chunks of 32, then the grants of ls; seven of the nine are cached; then ms, and the block behind the nine is released
+seven-cached : List Line
+seven-cached = R 16 ∷ R 48 ∷ R 80 ∷ R 112 ∷ R 144 ∷ R 176 ∷ R 208 ∷ []
+
+behind : List Line → List Line → List Line
+behind ls ms = G 24 ∷ G 24 ∷ G 24 ∷ G 24 ∷ G 24 ∷ G 24 ∷ G 24 ∷ G 24 ∷ G 24 ∷ ls ++ seven-cached ++ ms ++ R 304 ∷ []
+
+fast-and-unsorted : Heap → List ℕ
+fast-and-unsorted h = length (fast h 0) ∷ fast h 0 ++ length (bin h 1) ∷ bin h 1
+
+yields-65536 : same? (fast-and-unsorted (heapAfter (script 131072 (behind (G 65528 ∷ G 24 ∷ []) (R 240 ∷ []))))) (0 ∷ 2 ∷ 224 ∷ 288 ∷ []) ≡ true
+unfolding script behind seven-cached fast-and-unsorted
+yields-65536 = refl
+
+yields-65520 : same? (fast-and-unsorted (heapAfter (script 131072 (behind (G 65512 ∷ G 24 ∷ []) (R 240 ∷ []))))) (1 ∷ 224 ∷ 1 ∷ 288 ∷ []) ≡ true
+unfolding script behind seven-cached fast-and-unsorted
+yields-65520 = refl
+
+-- the top included: a chunk of 1,120 and the top are 65,536 together, or 65,520
+top-makes-65536 : same? (fast-and-unsorted (heapAfter (script 65824 (behind (G 1112 ∷ []) (R 240 ∷ []))))) (0 ∷ 1 ∷ 224 ∷ []) ≡ true
+unfolding script behind seven-cached fast-and-unsorted
+top-makes-65536 = refl
+
+top-makes-65520 : same? (fast-and-unsorted (heapAfter (script 65808 (behind (G 1112 ∷ []) (R 240 ∷ []))))) (1 ∷ 224 ∷ 0 ∷ []) ≡ true
+unfolding script behind seven-cached fast-and-unsorted
+top-makes-65520 = refl
+
+-- without a fast chunk nothing more is done, whatever is yielded: the seven stay cached, and the eighth is live
+no-fast-chunk : same? (fast-and-unsorted (heapAfter (script 131072 (behind (G 65528 ∷ G 24 ∷ []) []))) ++ cache (heapAfter (script 131072 (behind (G 65528 ∷ G 24 ∷ []) []))) 0)
+    (0 ∷ 1 ∷ 288 ∷ 192 ∷ 160 ∷ 128 ∷ 96 ∷ 64 ∷ 32 ∷ 0 ∷ []) ≡ true
+unfolding script behind seven-cached fast-and-unsorted
+no-fast-chunk = refl
+
+no-fast-chunk-top : same? (fast-and-unsorted (heapAfter (script 65824 (behind (G 1112 ∷ []) [])))) (0 ∷ 0 ∷ []) ≡ true
+unfolding script behind seven-cached fast-and-unsorted
+no-fast-chunk-top = refl
+
+-- in an emptying: the chunk at 0 goes on fast list 0; the one at 416 (cache list 11) joins the top, which yields 65,536 and has the fast chunk joined; so the one at
+-- 64 (cache list 18) comes before it in unsorted. With 16 bytes less the joining at the end has it joined, behind that one
+emptied-halfway : List Line
+emptied-halfway = G 24 ∷ G 24 ∷ G 312 ∷ G 24 ∷ G 200 ∷ R 16 ∷ R 80 ∷ R 432 ∷ S ∷ []
+
+emptying-consolidates : same? (bin (heapAfter (script 65952 emptied-halfway)) 1) (64 ∷ 0 ∷ []) ≡ true
+unfolding script emptied-halfway
+emptying-consolidates = refl
+
+emptying-does-not : same? (bin (heapAfter (script 65936 emptied-halfway)) 1) (0 ∷ 64 ∷ []) ≡ true
+unfolding script emptied-halfway
+emptying-does-not = refl
+
+-- in a resize: the block at 256 is cut to 112 and its rest of 69,904 released; the fast chunk before it is joined and binned, so that its own P is clear. A rest of
+-- 65,520 leaves that chunk fast, and P set
+rest-released : ℕ → List Line
+rest-released n = G 24 ∷ G 24 ∷ G 24 ∷ G 24 ∷ G 24 ∷ G 24 ∷ G 24 ∷ G 24 ∷ G n ∷ G 24 ∷ seven-cached ++ R 240 ∷ Z 272 100 ∷ []
+
+rest-consolidates : same? (heads (heapAfter (script 131072 (rest-released 70000))) (256 ∷ 368 ∷ []) ++ fast-and-unsorted (heapAfter (script 131072 (rest-released 70000))))
+    (112 ∷ 0 ∷ 69904 ∷ 1 ∷ 0 ∷ 2 ∷ 224 ∷ 368 ∷ []) ≡ true
+unfolding script rest-released seven-cached heads fast-and-unsorted
+rest-consolidates = refl
+
+rest-does-not : same? (heads (heapAfter (script 131072 (rest-released 65624))) (256 ∷ 368 ∷ []) ++ fast-and-unsorted (heapAfter (script 131072 (rest-released 65624))))
+    (112 ∷ 1 ∷ 65520 ∷ 1 ∷ 1 ∷ 224 ∷ 1 ∷ 368 ∷ []) ≡ true
+unfolding script rest-released seven-cached heads fast-and-unsorted
+rest-does-not = refl
+
 -- on a newly opened arena of 32 bytes, which has no live block, a resize above 262,144 is refused with 2 and not with 4
 numberOf : After → ℕ
 numberOf (after a r x) = answerNumbers x .no

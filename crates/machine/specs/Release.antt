@@ -4,11 +4,11 @@ use mathlib.Core.Bool.{true, false}
 use Prim.Native.Nat.{ℕ, zero, suc, _-_}
 use lib.Dec.{eqb, ltb, leb}
 use lib.ListN.{length}
-use Rattle.sizes.specs.Limits.{none32, mostCached, cacheRoom, cacheLists, mostFast, fastLists, unsorted}
+use Rattle.sizes.specs.Limits.{none32, mostCached, cacheRoom, cacheLists, mostFast, consolidateFrom, fastLists, unsorted}
 use Rattle.sizes.specs.Sizes.{cacheOf, fastOf}
 use Rattle.machine.specs.Lists.{both}
-use Rattle.machine.specs.Heap.{Heap, stack, cache, fastAt, binned, binHas, topOf, sizeOf, pOf, next, before}
-use Rattle.machine.specs.Writes.{Ran, does, giving, _>>=_}
+use Rattle.machine.specs.Heap.{Heap, stack, cache, fastAt, anyFast?, binned, binHas, topOf, sizeOf, pOf, next, before}
+use Rattle.machine.specs.Writes.{Ran, ran, does, giving, more, _>>=_}
 use Rattle.machine.specs.Primitives.{push, pop, pushCache, putFirst, unlink, swallow, clearP, toTop, setRemainder}
 
 -- x leaves its bin, and c takes in the chunk after it
@@ -41,17 +41,6 @@ join c h = elim (eqb (pOf h c) 0) [
     putDown c h₁
 ]
 
--- past the cache: up to 128 on the fast list, else join. Answers the size that the joining yields, 0 where none is joined
-unfoldable pub releasePast : ℕ → Heap → Ran ℕ
-releasePast c h = elim (leb (sizeOf h c) mostFast) [ true ↦ giving 0 (push (fastAt (fastOf (sizeOf h c))) c h) | false ↦ join c h ]
-
--- size up to 1,040 and its cache list under 7: push; else past the cache
-unfoldable pub release : ℕ → Heap → Ran ℕ
-release c h = elim (both (leb (sizeOf h c) mostCached) (ltb (length (cache h (cacheOf (sizeOf h c)))) cacheRoom)) [
-  | true ↦ giving 0 (pushCache (cacheOf (sizeOf h c)) c h)
-  | false ↦ releasePast c h
-]
-
 -- stack k, whose chunks are l, from its head: take the chunk out, and do f with it
 unfoldable pub drain : (ℕ → Heap → Ran ℕ) → ℕ → List ℕ → Heap → Ran (Unit {0})
 drain f k [] h = does h []
@@ -70,6 +59,21 @@ drains f (suc n) k h = do
 -- consolidate: fast lists 0 to 9, each from its head: take the chunk out, and join
 unfoldable pub consolidate : Heap → Ran (Unit {0})
 consolidate h = drains join fastLists (fastAt 0) h
+
+-- when the joining yields 65,536 bytes or more, the top included when it was joined, and a fast list is non-empty, it consolidates (document 02, (vi))
+abbrev pub joined : Ran ℕ → Ran ℕ
+joined (ran h ws s) = elim (both (leb consolidateFrom s) (anyFast? h)) [ true ↦ more ws (giving s (consolidate h)) | false ↦ ran h ws s ]
+
+-- past the cache: up to 128 on the fast list, else join. Answers the size that the joining yields, 0 where none is joined
+unfoldable pub releasePast : ℕ → Heap → Ran ℕ
+releasePast c h = elim (leb (sizeOf h c) mostFast) [ true ↦ giving 0 (push (fastAt (fastOf (sizeOf h c))) c h) | false ↦ joined (join c h) ]
+
+-- size up to 1,040 and its cache list under 7: push; else past the cache
+unfoldable pub release : ℕ → Heap → Ran ℕ
+release c h = elim (both (leb (sizeOf h c) mostCached) (ltb (length (cache h (cacheOf (sizeOf h c)))) cacheRoom)) [
+  | true ↦ giving 0 (pushCache (cacheOf (sizeOf h c)) c h)
+  | false ↦ releasePast c h
+]
 
 -- settle's first part: cache lists 0 to 63, each from its head: release past the cache
 unfoldable pub emptying : Heap → Ran (Unit {0})

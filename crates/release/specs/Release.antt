@@ -5,23 +5,29 @@ use mathlib.Core.List.{List, _∷_}
 use Prim.Native.Nat.{ℕ, _≤_, _<_}
 use native.Mathlib.Omega.{arith}
 use lib.ListN.{length, getD}
+use lib.Dec.{leb}
 use borrow.Author.Tests.{lt-leb, le-leb}
-use Rattle.sizes.specs.Limits.{mostFast}
+use Rattle.sizes.specs.Limits.{mostFast, consolidateFrom}
 use Rattle.sizes.specs.Layout.{cacheCount}
 use Rattle.sizes.specs.Sizes.{cacheOf, fastOf}
-use Rattle.machine.specs.Heap.{Heap, stack, cache, fastAt, sizeOf}
-use Rattle.machine.specs.Writes.{giving}
+use Rattle.machine.specs.Lists.{both}
+use Rattle.machine.specs.Heap.{Heap, stack, cache, fastAt, anyFast?, sizeOf}
+use Rattle.machine.specs.Writes.{Write, Ran, ran, heapOf, giving, more}
 use Rattle.machine.specs.Primitives.{push, pushCache}
-use Rattle.machine.specs.Release.{join, releasePast, release}
+use Rattle.machine.specs.Release.{join, consolidate, joined, releasePast, release}
 use Rattle.machine.specs.View.{sizeAt}
 use Rattle.sound.specs.Relation.{Loose, Good}
+use Rattle.sound.specs.Ends.{Ends}
+use Rattle.sound.specs.Leaves.{leaves-ends}
+use Rattle.sound.specs.JoinLeaves.{join-leaves}
 use Rattle.record_words.specs.CacheOnly.{CacheOnly, Changes}
 use Rattle.record_words.specs.declared.Changed.the-variants.{CacheList}
 use Rattle.primitives.specs.Follow.{Ok, Has, Gave, Does}
-use Rattle.primitives.specs.FollowLaws.{gave-by, gave-giving}
+use Rattle.primitives.specs.FollowLaws.{gave-by, gave-more, gave-giving, gave-ok, gave-good}
 use Rattle.primitives.specs.Room.{cacheTakes}
 use Rattle.primitives.specs.CacheList.{cache-only, takes-is, takes-room}
 use Rattle.release_join.specs.Reads.{loose-reads}
+use Rattle.consolidate.specs.AnyFast.{Told}
 use Rattle.release.specs.Offers.{OnCache, Passed, Comes}
 use Rattle.release.specs.declared.Offered.{Offered}
 use Rattle.release.specs.declared.Offered.the-variants.{On, NoRoom}
@@ -31,9 +37,34 @@ past-fast : (c z : ℕ) (h : Heap) → sizeOf h c ≡ z → z ≤ 128 → releas
 unfolding releasePast
 past-fast c z h e l = rw (le-leb (sizeOf h c) mostFast (omega arith), releasePast) (ap (λ (z : ℕ). giving 0 (push (fastAt (fastOf z)) c h)) e)
 
-past-join : (c z : ℕ) (h : Heap) → sizeOf h c ≡ z → 128 < z → releasePast c h ≡ join c h
+past-join : (c z : ℕ) (h : Heap) → sizeOf h c ≡ z → 128 < z → releasePast c h ≡ joined (join c h)
 unfolding releasePast
 past-join c z h e l = rw (lt-leb (sizeOf h c) mostFast (omega arith), releasePast)
+
+neither : (t : Bool) → both t false ≡ false
+neither true = refl
+neither false = refl
+
+-- ---- what a joining yields, followed: nothing more is done, or the fast chunks are joined too
+abbrev joinedBy : Heap → List Write → ℕ → Bool → Ran ℕ
+joinedBy g ws n t = elim t [ true ↦ more ws (giving n (consolidate g)) | false ↦ ran g ws n ]
+
+joined-by : (g : Heap) (ws : List Write) (n : ℕ) (t : Bool) → both (leb consolidateFrom n) (anyFast? g) ≡ t → joined (ran g ws n) ≡ joinedBy g ws n t
+joined-by g ws n t e = ap (joinedBy g ws n) e
+
+joined-few : (x : Ran ℕ) {s : ℕ} {w v q : List ℕ} → Gave ℕ x s w v q → s < 65536 → Gave ℕ (joined x) s w v q
+joined-few (ran g ws n) G l =
+    gave-by (joined-by g ws n false (ap (λ (t : Bool). both t (anyFast? g)) (lt-leb consolidateFrom n (omega (arith, G .says))))) G
+
+joined-none : (x : Ran ℕ) {s : ℕ} {w v q : List ℕ} → Gave ℕ x s w v q → anyFast? (heapOf x) ≡ false → Gave ℕ (joined x) s w v q
+joined-none (ran g ws n) G e = gave-by (joined-by g ws n false (ap (both (leb consolidateFrom n)) e ∙ neither (leb consolidateFrom n))) G
+
+joined-all : (x : Ran ℕ) {s : ℕ} {w v q : List ℕ} → Gave ℕ x s w v q → 65536 ≤ s → anyFast? (heapOf x) ≡ true → {u p : List ℕ}
+    → Gave (Unit {0}) (consolidate (heapOf x)) tt v u p → Gave ℕ (joined x) s w u p
+joined-all (ran g ws n) {s} {w} {v} G l e {u} {p} C =
+    gave-by (joined-by g ws n true (ap (λ (t : Bool). both t (anyFast? g)) (le-leb consolidateFrom n (omega (arith, G .says))) ∙ e))
+    (gave-more ws (giving n (consolidate g)) s (G .bytes)
+    (subst (λ (m : ℕ). Gave ℕ (giving n (consolidate g)) m v u p) (G .says) (gave-giving (consolidate g) tt n C)))
 
 -- ---- release by its test
 release-cached : (c z : ℕ) (h : Heap) → sizeOf h c ≡ z → cacheTakes (length (cache h (cacheOf z))) z ≡ true → release c h ≡ giving 0 (pushCache (cacheOf z) c h)
@@ -59,8 +90,32 @@ module _ (h : Heap) (w r : List ℕ) (c z : ℕ) (o : Ok h w r) (lo : Loose h c)
   past-fast-gave {v} {q} {k} l e D =
       gave-by (past-fast c z h size-is l ∙ ap (λ (k : ℕ). giving 0 (push (fastAt k) c h)) (sym e)) (gave-giving (push (fastAt k) c h) tt 0 (D .does h o lo))
 
-  pub past-join-gave : {v q : List ℕ} {s : ℕ} → 128 < z → Good h → Does ℕ (λ h. Good h × Loose h c) (join c) w r s v q → Gave ℕ (releasePast c h) s w v q
-  past-join-gave l g D = gave-by (past-join c z h size-is l) (D .does h o (g, lo))
+  -- c is joined
+  module _ (l : 128 < z) (g : Good h) {v q : List ℕ} {s : ℕ} (D : Does ℕ (λ h. Good h × Loose h c) (join c) w r s v q) where
+    joined-gave : Gave ℕ (join c h) s w v q
+    joined-gave = D .does h o (g, lo)
+
+    joined-ends : Ends (join c h) w Good
+    joined-ends = leaves-ends (join-leaves h w c g (o .mem) lo) (λ a n p. p .0)
+
+    joined-ok : Ok (heapOf (join c h)) v q
+    joined-ok = gave-ok (join c h) s (joined-ends .now .shape) (joined-ends .mem) joined-gave
+
+    pub joined-has : Has Good v q
+    joined-has = gave-good (join c h) s joined-ends joined-gave
+
+    joined-fast : (t : Bool) → Told q t → anyFast? (heapOf (join c h)) ≡ t
+    joined-fast t f = sym (f (heapOf (join c h)) v joined-ok)
+
+    pub past-few-gave : s < 65536 → Gave ℕ (releasePast c h) s w v q
+    past-few-gave k = gave-by (past-join c z h size-is l) (joined-few (join c h) joined-gave k)
+
+    pub past-none-gave : (t : Bool) → Told q t → t ≡ false → Gave ℕ (releasePast c h) s w v q
+    past-none-gave t f e = gave-by (past-join c z h size-is l) (joined-none (join c h) joined-gave (joined-fast t f ∙ e))
+
+    pub past-all-gave : 65536 ≤ s → (t : Bool) → Told q t → t ≡ true → {u p : List ℕ} → Does (Unit {0}) Good consolidate v q tt u p → Gave ℕ (releasePast c h) s w u p
+    past-all-gave k t f e C =
+        gave-by (past-join c z h size-is l) (joined-all (join c h) joined-gave k (joined-fast t f ∙ e) (C .does (heapOf (join c h)) joined-ok (joined-ends .now)))
 
   -- t: what the test of the cache answered
   module _ (t : Bool) (et : t ≡ cacheTakes (getD r (cacheCount (cacheOf z)) 0) z) where

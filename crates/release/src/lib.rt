@@ -1,10 +1,13 @@
-// Release: a chunk to the cache if that has room, and past the cache: to its fast list, or joined. Assumes nothing.
+// Release: a chunk to the cache if that has room, and past the cache: to its fast list, or joined, after which the fast chunks may be joined too. Assumes nothing.
 use chunk_fields::size_at;
+use consolidate::any_fast;
+use consolidate::consolidate;
 use primitives::cache_takes;
 use primitives::push_cache;
 use primitives::push_fast;
 use record_words::Changed;
 use release_join::join;
+use sizes::CONSOLIDATE_FROM;
 use sizes::Chunk;
 use sizes::MOST_FAST;
 ghost use Prim.Native.Nat.{ℕ};
@@ -32,7 +35,11 @@ pub fn release_past(a: &mut [u8], r: &mut [u32], c: Chunk) -> u64
         push_fast(a, r, sizes::fast_list(z), c);
         return 0;
     }
-    join(a, r, c)
+    let s = join(a, r, c);
+    if s >= CONSOLIDATE_FROM && any_fast(r) {
+        consolidate(a, r);
+    }
+    s
 }
 
 // c, which no list has, goes on the cache list of its size if that has room.

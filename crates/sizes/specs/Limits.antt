@@ -30,6 +30,10 @@ cacheRoom = 7
 abbrev pub mostFast : ℕ
 mostFast = 128
 
+-- a joining that yields so much has the fast chunks joined too
+abbrev pub consolidateFrom : ℕ
+consolidateFrom = 65536
+
 abbrev pub fastLists : ℕ
 fastLists = 10
 

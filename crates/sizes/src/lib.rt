@@ -21,6 +21,7 @@ pub use limits::ALL_LISTS;
 pub use limits::BINS_FROM;
 pub use limits::CACHE_LISTS;
 pub use limits::CACHE_ROOM;
+pub use limits::CONSOLIDATE_FROM;
 pub use limits::FAST_FROM;
 pub use limits::FAST_LISTS;
 pub use limits::LARGE;

@@ -21,6 +21,9 @@ pub const CACHE_ROOM: u32 = 7;
 // The largest chunk that a fast list takes, and how many lists there are.
 pub const MOST_FAST: u64 = 128;
 
+// A joining that yields so much has the fast chunks joined too.
+pub const CONSOLIDATE_FROM: u64 = 65536;
+
 pub const FAST_LISTS: usize = 10;
 
 // The smallest large size and its bin, the unsorted bin, and the last bin.

@@ -3,7 +3,7 @@
 use mathlib.Core.Path.{_≡_, refl, sym, ap, _∙_, subst}
 use mathlib.Core.List.{List, [], _∷_, _++_, append-assoc, append-nil}
 use mathlib.Core.Bool.{Bool, true, false}
-use mathlib.Core.Logic.{inl, inr}
+use mathlib.Core.Logic.{_⊎_, inl, inr, ⊎-elim}
 use Prim.Native.Nat.{ℕ, _+_, _-_, _%_, _≤_}
 use native.Mathlib.Omega.{arith}
 use lib.Dec.{ltb}
@@ -25,7 +25,7 @@ use Rattle.sound.specs.Spares.{Spares, spares-append, spares-then, spare
 use Rattle.sound.specs.Moves.{answerOf, nil, one, any, Moved, moved-keeps, moved-by, set-moved, trim-moved}
 use Rattle.sound.specs.Leaves.{Leaves, leaves-weaken, leaves-by, leaves-none, leaves-giving, leaves-next, leaves-size, leaves-widen}
 use Rattle.sound.specs.Release.{release-leaves}
-use Rattle.sound.specs.Below.{Below, p-at, heap-giving, heap-then, release-below}
+use Rattle.sound.specs.Below.{Below, OwnP, p-at, heap-giving, heap-then, Unmoved, release-below}
 
 -- ---- c, at the end of a
 pub record Held (h : Heap) (a : List Tile) (t : Tile) (r : List Tile) : Type 0 where
@@ -130,11 +130,11 @@ next-below h a t [] H =
     record { rest = []; tiles = ap (λ (r : Ran (Unit {0})). heapOf r .tiles) (nextP-top h a t H) ∙ H .tiles ∙ sym (append-nil (a ++ t ∷ [])) }
 next-below h a t (u ∷ r) H = record { rest = tile (u .size) 1 0 ∷ r; tiles = ap (λ (r : Ran (Unit {0})). heapOf r .tiles) (nextP-set h a t u r H) }
 
--- ---- c stays where it is, of at least n, with P as p has it, and no usable word that it has before and after is written. o: what goes from the loose ones, c
--- among them
+-- ---- c stays where it is, of at least n, with P as p has it unless the fast chunks were joined, and no usable word that it has before and after is written.
+-- o: what goes from the loose ones, c among them
 pub record InPlace {A : Type 0} (c n p : ℕ) (o : ℕ → ℕ) (h : Heap) (w : List ℕ) (x : Ran A) : Type 0 where
   pub leaves : Leaves h w x (λ b g. Good g × (n ≤ sizeOf g c)) (any (one c)) o
-  pub own : pOf (heapOf x) c ≡ p
+  pub own : OwnP c p (heapOf x)
   pub spare : (m : ℕ) → m ≤ sizeOf h c → m ≤ sizeOf (heapOf x) c → Spares c m (writes x)
 
 in-place-if : {A : Type 0} {c n p : ℕ} {o : ℕ → ℕ} {h : Heap} {w : List ℕ} (t : Bool) {x y : Ran A} → (t ≡ true → InPlace c n p o h w x)
@@ -148,7 +148,7 @@ pub in-place-next : {A B : Type 0} {c n p : ℕ} {h : Heap} {w : List ℕ} {r : 
     → ((x : ℕ) → o₁ x + o₂ x ≡ o x + i₁ (answerOf r) x) → ((x : ℕ) → Loose h x → o x ≡ 0 → (o₁ x ≡ 0) × (o₂ x ≡ 0)) → InPlace c n p o h w (r >>= f)
 in-place-next {A} {B} {c} {n} {p} {h} {w} {r = ran g ws a} f {o₂ = o₂} m sp le I e out = record {
   leaves = leaves-next f m (I .leaves) (λ b x. omega (arith, e x)) out;
-  own = ap (λ (k : Heap). pOf k c) (heap-then (ran g ws a) f) ∙ I .own;
+  own = subst (OwnP c p) (sym (heap-then (ran g ws a) f)) (I .own);
   spare = go (f g) (I .spare);
 }
   where
@@ -217,7 +217,7 @@ module _ (h : Heap) (w : List ℕ) (a : List Tile) (t : Tile) (r : List Tile) (H
       let sz : sizeOf h c ≡ t .size = size-at h a r t (H .tiles) (f .0) in
       record {
         leaves = leaves-widen (leaves-weaken (leaves-size c lo refl L) (λ b g p. (p .0, omega (arith, p .1, sz)))) (λ b x. omega arith) (λ x q. refl);
-        own = p-at (heapOf (nextP c h)) a t (f .0) (next-below h a t r H);
+        own = inl (p-at (heapOf (nextP c h)) a t (f .0) (next-below h a t r H));
         spare = λ m l u. spares-less c (sizeOf h c) m (writes (nextP c h)) l (L .moved .spare c lo refl);
       }
 
@@ -267,8 +267,9 @@ module _ (h : Heap) (w : List ℕ) (a : List Tile) (t : Tile) (r : List Tile) (H
       (subst (λ (z : ℕ). Spares c z (writes (freed h₂))) zc₂ (R .moved .spare c lc₂ out))) in
       subst (λ (x : Ran (Unit {0})). InPlace c n (t .p) (one c) h w (x >>= (λ h. rest h))) (sym ti) (record {
         leaves = leaves-weaken L (λ b g p. (p .0, omega (arith, p .1)));
-        own = ap (λ (g : Heap). pOf g c) (heap-then (does h₁ ws) (λ h. rest h) ∙ heap-then (nextP (c + n) h₁) (λ h. freed h) ∙ heap-giving tt (release (c + n) h₂))
-            ∙ p-at (heapOf (release (c + n) h₂)) a A (f .0) (subst (λ (o : ℕ). Below (a ++ A ∷ []) (heapOf (release o h₂))) ec D);
+        own = subst (OwnP c (t .p)) (sym (heap-then (does h₁ ws) (λ h. rest h) ∙ heap-then (nextP (c + n) h₁) (λ h. freed h) ∙ heap-giving tt (release (c + n) h₂)))
+            (⊎-elim (λ B. inl (p-at (heapOf (release (c + n) h₂)) a A (f .0) B)) (λ e. inr e)
+            (subst (λ (o : ℕ). Unmoved (a ++ A ∷ []) (heapOf (release o h₂))) ec D));
         spare = λ m l u. spares-less c n m (writes (does h₁ ws >>= (λ h. rest h))) (omega (arith, L .now .1)) sp;
       })
 

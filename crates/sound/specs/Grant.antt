@@ -9,7 +9,7 @@ use Rattle.machine.specs.Grant.{step3, step6, step7, step9, pass, again, from4,
 use Rattle.sound.specs.Relation.{Mem, Good}
 use Rattle.sound.specs.Moves.{nil}
 use Rattle.sound.specs.Leaves.{Leaves, leaves-weaken, leaves-if, gave, Found, found-then, found-else, found-nothing}
-use Rattle.sound.specs.Settle.{consolidate-leaves}
+use Rattle.sound.specs.Drain.{consolidate-leaves}
 use Rattle.sound.specs.Small.{step1-leaves, step2-leaves, step3-leaves, step4-leaves}
 use Rattle.sound.specs.Sweep.{step5-leaves}
 use Rattle.sound.specs.Large.{step6-leaves, step7-leaves, step9-leaves}

@@ -16,7 +16,8 @@ use Rattle.sound.specs.Ends.{Ends}
 use Rattle.sound.specs.Moves.{nil, one, any}
 use Rattle.sound.specs.Leaves.{Leaves, leaves-ends, gave, Still, Cached, Found, still-here}
 use Rattle.sound.specs.Release.{releasePast-leaves, release-leaves}
-use Rattle.sound.specs.Settle.{drain-leaves, drains-leaves, consolidate-leaves, emptying-leaves, joining-leaves, settle-leaves}
+use Rattle.sound.specs.Drain.{drain-leaves, drains-leaves, consolidate-leaves}
+use Rattle.sound.specs.Settle.{emptying-leaves, joining-leaves, settle-leaves}
 use Rattle.sound.specs.Take.{step8-leaves}
 use Rattle.sound.specs.Small.{step1-leaves, step2-leaves, step3-leaves, step4-leaves}
 use Rattle.sound.specs.Sweep.{Turned, turn-leaves, sweep-leaves, step5-leaves}

@@ -16,6 +16,8 @@ pub mod Moves
 pub mod JoinMoves
 pub mod Leaves
 pub mod Copies
+pub mod JoinLeaves
+pub mod Drain
 pub mod Release
 pub mod Settle
 pub mod Take

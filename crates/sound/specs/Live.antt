@@ -24,8 +24,10 @@ use Rattle.sound.specs.Spares.{Spares, spared}
 use Rattle.sound.specs.Moves.{answerOf, nil, one, any, Moved, moved-keeps}
 use Rattle.sound.specs.Leaves.{Leaves, gave, Still, Cached, Found}
 use Rattle.sound.specs.Release.{both-true, release-leaves}
-use Rattle.sound.specs.Settle.{Consolidated, consolidate-leaves, Settled, settle-leaves}
+use Rattle.sound.specs.Drain.{Consolidated, consolidate-leaves}
+use Rattle.sound.specs.Settle.{Settled, settle-leaves}
 use Rattle.sound.specs.Grant.{grant-leaves}
+use Rattle.sound.specs.Below.{OwnP}
 use Rattle.sound.specs.Resize.{Resized, standing, resize-resized}
 use Rattle.machine.specs.declared.{Got.Got, Got.the-variants.At, Got.the-variants.Nothing}
 
@@ -166,9 +168,9 @@ grant-gives b b16 b32 h w g m = found-gives b h w (grant b h) (g .shape) (grant-
 pub resize-resizes : (b : ℕ) → b % 16 ≡ 0 → 32 ≤ b → (h : Heap) (w : List ℕ) → Good h → Mem h w → (c : ℕ) → Loose h c → Resizes c b h w (resize c b h)
 resize-resizes b b16 b32 h w g m c lo = resized-resizes c b (standing c b h) h w (resize c b h) (g .shape) lo (resize-resized h w c b g m lo b16 b32)
 
--- not moved, it keeps its own P as it stands
+-- not moved, it keeps its own P as it stands, unless the release of its rest has the fast chunks joined
 pub resize-own-p : (b : ℕ) → b % 16 ≡ 0 → 32 ≤ b → (h : Heap) (w : List ℕ) → Good h → Mem h w → (c : ℕ) → Loose h c → answerOf (resize c b h) ≡ At c
-    → pOf (heapOf (resize c b h)) c ≡ pOf (standing c b h) c
+    → OwnP c (pOf (standing c b h) c) (heapOf (resize c b h))
 resize-own-p b b16 b32 h w g m c lo = resize-resized h w c b g m lo b16 b32 .own
 
 -- ---- a refused grant, and a refused resize, leaves the cache lists and the last remainder as they were

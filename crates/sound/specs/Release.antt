@@ -1,76 +1,29 @@
--- Release, and release past the cache: from any sound heap and any loose chunk the heap stays sound, and the chunk alone goes from the loose ones.
--- By the ways through the tests. Assumes nothing.
+-- Release, and release past the cache: from any sound heap and any loose chunk the heap stays sound, and the chunk alone goes from the loose ones, also where
+-- the joining has the fast chunks joined too. By the ways through the tests. Assumes nothing.
 use mathlib.Core.Path.{_≡_, refl, sym, ap, _∙_}
 use mathlib.Core.List.{List, [], _∷_}
 use mathlib.Core.Bool.{Bool, true, false}
 use Prim.Native.Nat.{ℕ, _+_, _-_, _*_, _%_, _≤_, _<_}
 use native.Mathlib.Omega.{arith}
-use lib.Dec.{eqb, ltb, leb}
-use lib.ListN.{length, getD}
+use lib.Dec.{ltb, leb}
+use lib.ListN.{length}
 use lib.Seq.{getD-set-other}
 use borrow.Author.Tests.{lt-ltb, le-ltb, ltb-true, leb-true}
-use Rattle.sizes.specs.Limits.{mostCached, cacheRoom, mostFast}
+use Rattle.sizes.specs.Limits.{mostCached, cacheRoom, mostFast, consolidateFrom}
 use Rattle.sizes.specs.Sizes.{cacheOf, fastOf}
 use Rattle.sizes.specs.SizesLaws.{cacheOf-size, fastOf-size, cacheOf-bound, fastOf-bound}
 use Rattle.machine.specs.Lists.{both, cnt}
-use Rattle.machine.specs.Heap.{Heap, stack, cache, fastAt, topOf, starts, sizeOf, pOf, next, before, binned}
-use Rattle.machine.specs.Writes.{Ran, heapOf, more, _>>=_, ran}
+use Rattle.machine.specs.Heap.{Heap, stack, cache, fastAt, anyFast?, starts, sizeOf}
+use Rattle.machine.specs.Writes.{apply, Ran, giving, ran}
 use Rattle.machine.specs.Primitives.{push}
-use Rattle.machine.specs.Release.{absorb, joinNext, putDown, join, releasePast, release}
+use Rattle.machine.specs.Release.{consolidate, joined, releasePast, release}
 use Rattle.sound.specs.Relation.{Mem, Loose, stackSize, Good}
 use Rattle.sound.specs.Edits.{size-32, size-16}
-use Rattle.sound.specs.Join.{join-ends}
 use Rattle.sound.specs.Stacks.{push-ends}
 use Rattle.sound.specs.Moves.{nil, one, any, push-moved}
-use Rattle.sound.specs.JoinMoves.{join-moved}
-use Rattle.sound.specs.Leaves.{Leaves, leaves-weaken, leaves-if, leaves-giving, Still, Cached}
-
--- ---- a join changes no stack, and not the last remainder
-record Same {A : Type 0} (h : Heap) (r : Ran A) : Type 0 where
-  stacks : heapOf r .stacks ≡ h .stacks
-  remainder : heapOf r .remainder ≡ h .remainder
-
-same-if : {A : Type 0} {h : Heap} (t : Bool) {x y : Ran A} → Same h x → Same h y → Same {A = A} h (elim t [ true ↦ x | false ↦ y ])
-same-if true p q = p
-same-if false p q = q
-
-same-then : {A B : Type 0} {h : Heap} {r : Ran A} (f : Heap → Ran B) → Same h r → ((g : Heap) → Same g (f g)) → Same h (r >>= f)
-same-then {A} {B} {h} {r = ran g ws a} f s k = go (f g) (k g)
-  where
-    go : (r : Ran B) → Same g r → Same h (more ws r)
-    go (ran l vs b) t = record { stacks = t .stacks ∙ s .stacks; remainder = t .remainder ∙ s .remainder }
-
-next-same : (c : ℕ) (h : Heap) → Same h (joinNext c h)
-unfolding joinNext absorb
-next-same c h = same-if (eqb (binned h (next h c)) 0) (record { stacks = refl; remainder = refl }) (record { stacks = refl; remainder = refl })
-
-down-same : (c : ℕ) (h : Heap) → Same h (putDown c h)
-unfolding putDown
-down-same c h = same-if (eqb (next h c) (topOf h)) (record { stacks = refl; remainder = refl }) (record { stacks = refl; remainder = refl })
-
-join-same : (c : ℕ) (h : Heap) → Same h (join c h)
-unfolding join absorb
-join-same c h = same-if (eqb (pOf h c) 0)
-    (same-then {r = absorb (before h c) (before h c) h} (λ h₁. joinNext (before h c) h₁ >>= (λ h₂. putDown (before h c) h₂))
-    (record { stacks = refl; remainder = refl }) (rest (before h c)))
-    (rest c h)
-  where
-    rest : (q : ℕ) (g : Heap) → Same g (joinNext q g >>= (λ h₂. putDown q h₂))
-    rest q g = same-then (λ h₂. putDown q h₂) (next-same q g) (down-same q)
-
--- every stack
-abbrev pub Every : ℕ → Type 0
-Every k = Unit {0}
-
-pub join-leaves : (h : Heap) (w : List ℕ) (c : ℕ) → Good h → Mem h w → Loose h c → Leaves h w (join c h) (λ a g. Good g × Still Every h g) (any nil) (one c)
-join-leaves h w c g m lo =
-    let E = join-ends h w c g m lo in
-    let S = join-same c h in
-    record {
-      mem = E .mem;
-      now = (E .now, record { lists = λ k i. ap (λ (ls : List (List ℕ)). getD ls k []) (S .stacks); remainder = S .remainder });
-      moved = join-moved h w c g m lo;
-    }
+use Rattle.sound.specs.Leaves.{Leaves, leaves-weaken, leaves-if, leaves-giving, leaves-next, Still, Cached, still-then}
+use Rattle.sound.specs.JoinLeaves.{join-leaves}
+use Rattle.sound.specs.Drain.{consolidate-leaves}
 
 -- ---- a push of a loose chunk
 pub push-leaves : (h : Heap) (w : List ℕ) (k c : ℕ) → k < 74 → Good h → Mem h w → Loose h c → sizeOf h c ≡ stackSize k → (64 ≤ k → sizeOf h c ≤ 128)
@@ -92,6 +45,15 @@ stackSize-fast s e l =
     let q : fastAt (fastOf s) - 64 ≡ fastOf s = omega arith in
     rw (le-ltb (fastAt (fastOf s)) 64 (omega arith), stackSize) (sym (ap (λ (k : ℕ). 32 + 16 * k) q ∙ fastOf-size s e l))
 
+-- ---- a joining has the fast chunks joined too, or not
+joined-leaves : (h : Heap) (w : List ℕ) {o : ℕ → ℕ} (r : Ran ℕ) → Leaves h w r (λ a g. Good g × Still Cached h g) (any nil) o
+    → Leaves h w (joined r) (λ a g. Good g × Still Cached h g) (any nil) o
+joined-leaves h w (ran g ws s) L = leaves-if (both (leb consolidateFrom s) (anyFast? g))
+    (λ e. leaves-next (λ g. giving s (consolidate g)) (L .moved)
+    (leaves-giving s (consolidate-leaves g (apply ws w) (L .now .0) (L .mem)) (λ a x. refl) (λ a n C. (C .good, still-then Cached h g n (L .now .1) (C .still))))
+    (λ b x. refl) (λ x lo z. (z, refl)))
+    (λ e. L)
+
 -- ---- past the cache
 pub releasePast-leaves : (h : Heap) (w : List ℕ) (c : ℕ) → Good h → Mem h w → Loose h c
     → Leaves h w (releasePast c h) (λ a g. Good g × Still Cached h g) (any nil) (one c)
@@ -106,7 +68,7 @@ releasePast-leaves h w c g m lo = leaves-if (leb (sizeOf h c) mostFast)
     leaves-giving 0
     (push-leaves h w k c hk g m lo (stackSize-fast (sizeOf h c) (size-16 h c s mc) (size-32 h c s mc)) (λ z. le) (λ z. absurd (omega arith)))
     (λ a x. refl) (λ a n p. (p .0, record { lists = λ i l. p .1 .lists i (omega arith); remainder = p .1 .remainder })))
-    (λ e. leaves-weaken (join-leaves h w c g m lo) (λ a n p. (p .0, record { lists = λ i l. p .1 .lists i tt; remainder = p .1 .remainder })))
+    (λ e. joined-leaves h w _ (leaves-weaken (join-leaves h w c g m lo) (λ a n p. (p .0, record { lists = λ i l. p .1 .lists i tt; remainder = p .1 .remainder }))))
 
 -- ---- the whole release
 pub both-true : (a b : Bool) → both a b ≡ true → (a ≡ true) × (b ≡ true)

@@ -27,6 +27,7 @@ use Rattle.sound.specs.Leaves.{Leaves, leaves-giving, leaves-next, leave
 use Rattle.sound.specs.Release.{both-true, release-leaves}
 use Rattle.sound.specs.Grant.{seek-leaves}
 use Rattle.sound.specs.Copies.{copies-mem, copies-moved, copied}
+use Rattle.sound.specs.Below.{OwnP}
 use Rattle.sound.specs.Finish.{InPlace, in-place-next}
 use Rattle.sound.specs.Widen.{joined-in-place, stay-in-place, grow-in-place, behind-in-place}
 
@@ -39,7 +40,7 @@ nowAt c Nothing = c
 pub record Resized (c b : ℕ) (k h : Heap) (w : List ℕ) (r : Ran Got) : Type 0 where
   pub leaves : Leaves h w r (Found b h) (λ a x. one (nowAt c a) x) (one c)
   pub refused : answerOf r ≡ Nothing → Moved h r (any nil) nil
-  pub own : answerOf r ≡ At c → pOf (heapOf r) c ≡ pOf k c
+  pub own : answerOf r ≡ At c → OwnP c (pOf k c) (heapOf r)
   pub words : (i : ℕ) → 2 ≤ i → i ≤ sizeOf h c / 8 → i ≤ sizeOf (heapOf r) (nowAt c (answerOf r)) / 8
       → getD (apply (writes r) w) (nowAt c (answerOf r) / 8 + i) 0 ≡ getD w (c / 8 + i) 0
 

@@ -28,7 +28,7 @@ use Rattle.sound.specs.Stacks.{pop-ends}
 use Rattle.sound.specs.Moves.{answerOf, nil, one, any, listed-not, pop-moved}
 use Rattle.sound.specs.Leaves.{Leaves, leaves-weaken, leaves-by, leaves-if, leaves-none, leaves-giving, leaves-next, leaves-then, leaves-size, gave, Still, Cached, Found, still-here, found-nothing}
 use Rattle.sound.specs.Release.{push-leaves, stackSize-cache, stackSize-fast, both-true}
-use Rattle.sound.specs.Settle.{consolidate-leaves}
+use Rattle.sound.specs.Drain.{consolidate-leaves}
 use Rattle.sound.specs.Take.{takeLast-leaves}
 use Rattle.machine.specs.declared.{Got.Got, Got.the-variants.At, Got.the-variants.Nothing}
 

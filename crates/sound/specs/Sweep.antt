@@ -25,7 +25,8 @@ use Rattle.sound.specs.Edits.{size-32}
 use Rattle.sound.specs.Sort.{sorts, sort-ends}
 use Rattle.sound.specs.Moves.{nil, one, listed-not, moved-keeps, moved-then, moved-giving, moved-by, unlink-moved, link-moved}
 use Rattle.sound.specs.Leaves.{Leaves, leaves-of, leaves-weaken, leaves-if, leaves-giving, leaves-next, gave, Still, Cached, Found, still-here, still-then, found-nothing}
-use Rattle.sound.specs.Release.{Every, stackSize-cache, both-true}
+use Rattle.sound.specs.JoinLeaves.{Every}
+use Rattle.sound.specs.Release.{stackSize-cache, both-true}
 use Rattle.sound.specs.Take.{from-bin, mark-at, splitRest-leaves}
 use Rattle.sound.specs.Small.{some-has, pop-found, cache-leaves}
 use Rattle.machine.specs.declared.{Got.Got, Turn.Turn}

@@ -22,7 +22,7 @@ use Rattle.sound.specs.Edits.{size-at, snoc-end, snoc-tiles, size-next, 
 use Rattle.sound.specs.Carve.{Out, Outs, take-out, split-is, mark-ends, split-ends, remainder-good, remainder-mem}
 use Rattle.sound.specs.Moves.{nil, one, any, Moved, listed-not, moved-more, moved-by, unlink-moved, link-moved, set-moved, note-moved, cut-moved}
 use Rattle.sound.specs.Leaves.{Leaves, leaves-of, leaves-weaken, leaves-if, leaves-giving, leaves-next, leaves-then, leaves-widen, gave, Still, Found}
-use Rattle.sound.specs.Release.{Every}
+use Rattle.sound.specs.JoinLeaves.{Every}
 use Rattle.machine.specs.declared.{Got.the-variants.At}
 
 -- what is done with c, which has left its bin, says that c goes, and whether it comes again

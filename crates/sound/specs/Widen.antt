@@ -226,7 +226,7 @@ grown h w a t [] b g k e lo b16 b32 tp tb l =
         );
         moved = moved-by (sym gi) (grow-moved h a t b e s b16 b32 (K .shape));
       };
-      own = p-at h₁ a A (f .0) (record { rest = []; tiles = sym (append-nil (a ++ A ∷ [])) });
+      own = inl (p-at h₁ a A (f .0) (record { rest = []; tiles = sym (append-nil (a ++ A ∷ [])) }));
       spare = λ m i j. (inl (omega arith), (inr (omega (arith, zb)), tt));
     })
 

@@ -6,7 +6,7 @@ use lib.ListN.{length}
 use Rattle.le.specs.Arena.{arenaWords}
 use Rattle.machine.specs.Heap.{fastAt}
 use Rattle.machine.specs.Release.{join}
-use Rattle.sound.specs.Release.{Every, join-leaves}
+use Rattle.sound.specs.JoinLeaves.{Every, join-leaves}
 use Rattle.primitives.specs.Stacks.{ok-length}
 use Rattle.primitives.specs.Heads.{fast-some, fast-empty}
 use Rattle.primitives.specs.Reach.{Way, way-here}
