@@ -15,4 +15,3 @@ pub mod Emptied
 pub mod PerformedRuns
 pub mod Theorem
 pub mod Spared
-pub mod Sample

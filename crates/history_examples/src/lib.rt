@@ -1,0 +1,1 @@
+// Short histories on bytes, computed: no code, only theorems. Assumes nothing.
