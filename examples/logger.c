@@ -36,9 +36,14 @@ static struct heap_answer release(uint32_t mem)
     return heap_release(arena, sizeof arena, record, sizeof record, mem);
 }
 
-static struct heap_answer settle(void)
+static struct heap_answer emptying(void)
 {
-    return heap_settle(arena, sizeof arena, record, sizeof record);
+    return heap_emptying(arena, sizeof arena, record, sizeof record);
+}
+
+static struct heap_answer joining(void)
+{
+    return heap_joining(arena, sizeof arena, record, sizeof record);
 }
 
 static void print_audit(void)
@@ -200,6 +205,18 @@ static uint16_t shift(uint32_t table, uint32_t *curve)
     return CURVES;
 }
 
+/* The next melt has other sizes: the cache is emptied. Joining can wait. */
+static void end_melt(void)
+{
+    printf("end of the melt, emptying: %u\n", (unsigned)emptying().no);
+}
+
+/* Nobody waits now: what is still apart is joined. */
+static void idle(void)
+{
+    printf("idle, joining: %u\n", (unsigned)joining().no);
+}
+
 static void print_release(uint32_t mem)
 {
     struct heap_answer a = release(mem);
@@ -227,7 +244,8 @@ int main(void)
 
     puts("a long dip wants one piece of what is now free in several");
     a = dip(20, 900, 16300);
-    printf("settle: %u\n", (unsigned)settle().no);
+    end_melt();
+    idle();
     a = dip(20, 900, 16300);
     print_release(a.mem);
 

@@ -62,7 +62,7 @@
  *                               of the buffers is looked at
  *    2  grant, resize           n is above 262,144
  *    3  grant, release, resize, the heap is not sound: heap_audit says where
- *       settle
+ *       emptying, joining
  *    4  release, resize         mem is neither 0 nor a live block's: released
  *                               already, never granted, not a block's first
  *                               byte, or outside the arena
@@ -82,8 +82,10 @@
  *   resize           0       changed (below)           changed
  *   resize           1 to 4  as it was                 as it was
  *   resize           5       changed (below)           changed
- *   settle           0       changed (below)           changed
- *   settle           1, 3    as it was                 as it was
+ *   emptying         0       changed (below)           changed
+ *   emptying         1, 3    as it was                 as it was
+ *   joining          0       changed (below)           changed
+ *   joining          1, 3    as it was                 as it was
  *   audit            any     as it was                 as it was
  *
  * "As it was" holds for every single byte. A call that changes the arena
@@ -100,9 +102,9 @@
  * resize made again may succeed, by what was joined behind the block.
  *
  * A closed record says: length 0, every count 0, every other word all ones. On
- * an arena of an allowed length every later grant, release, resize and settle
- * then answers 3, but for a grant or a resize of more than 262,144 bytes, which
- * answers 2, as on every heap; audit names the record.
+ * an arena of an allowed length every later grant, release, resize, emptying
+ * and joining then answers 3, but for a grant or a resize of more than 262,144
+ * bytes, which answers 2, as on every heap; audit names the record.
  *
  *
  * THE RECORD
@@ -131,14 +133,15 @@
  * their number and to the arena's length; a resize that moves a block copies
  * its usable bytes as well. A release that makes one free piece of 65,536 bytes
  * or more, the top included, also joins the chunks of the fast lists, as some
- * grants and every settle do; so does a resize with what it releases. Give a
- * call of grant, release, resize, settle or audit HEAP_STACK_BYTES of stack.
- * The most that was measured is 23,681, by a resize, and 21,985 by any other,
- * over 600 random heaps and three where that joining takes place, of which
- * 20,000 are marks, one for each 16 bytes of an arena in four sizes of array,
- * and 1,572 the record's words, which a resize that is a grant or a release has
- * twice. heap_open needs no marks; the most measured is 632. No call is
- * recursive, none takes memory from elsewhere, and none calls back.
+ * grants and every joining do; so does a resize, or an emptying, with what it
+ * releases. Give a call of grant, release, resize, emptying, joining or audit
+ * HEAP_STACK_BYTES of stack. The most that was measured is 23,681, by a resize,
+ * and 21,985 by any other, over 600 random heaps and three where a release, a
+ * resize and an emptying join the fast lists, of which 20,000 are marks, one
+ * for each 16 bytes of an arena in four sizes of array, and 1,572 the record's
+ * words, which a resize that is a grant or a release has twice. heap_open needs
+ * no marks; the most measured is 632. No call is recursive, none takes memory
+ * from elsewhere, and none calls back.
  *
  * libheap.a is x86-64 code by the System V calling convention.
  */
@@ -243,13 +246,27 @@ struct heap_answer heap_resize(uint8_t *arena, size_t arena_len,
                                uint64_t mem, uint64_t n);
 
 /*
- * Joins all free memory. Released blocks are kept apart for a while, ready
- * for the next grant of their size; after a settle each stretch between held
- * blocks is one free chunk, and with no block held the heap answers every
- * later call as if newly opened. Refused with 1 or 3.
+ * Empties the cache. Released blocks are kept apart for a while, ready for the
+ * next grant of their size: those of up to 1,032 usable bytes in the cache, as
+ * long as it has fewer than seven of the size, else those of up to 120 in the
+ * fast lists. An emptying moves the blocks of up to 120 usable bytes from the
+ * cache to the fast lists, and joins the others with the free memory beside
+ * them. Refused with 1 or 3.
  */
-struct heap_answer heap_settle(uint8_t *arena, size_t arena_len,
-                               uint8_t *record, size_t record_len);
+struct heap_answer heap_emptying(uint8_t *arena, size_t arena_len,
+                                 uint8_t *record, size_t record_len);
+
+/*
+ * Joins what is in the fast lists with the free memory beside it, and clears
+ * the last remainder. What is in the cache stays there, so it is the second
+ * step: after an emptying and, with no grant, release or resize between, a
+ * joining, neither refused, each stretch between held blocks is one free chunk,
+ * and with no block held the heap answers every later call as if newly opened.
+ * Such a call between the two does no harm, as the heap is sound there; it only
+ * ends that promise, even if it is refused. Refused with 1 or 3.
+ */
+struct heap_answer heap_joining(uint8_t *arena, size_t arena_len,
+                                uint8_t *record, size_t record_len);
 
 /*
  * Says whether the heap is sound, or names its first fault, in the order:

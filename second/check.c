@@ -143,9 +143,14 @@ struct second_answer lent_resize(struct lent *l, uint64_t mem, uint64_t n)
                          n);
 }
 
-struct second_answer lent_settle(struct lent *l)
+struct second_answer lent_emptying(struct lent *l)
 {
-    return second_settle(l->arena, l->length, l->record, l->record_len);
+    return second_emptying(l->arena, l->length, l->record, l->record_len);
+}
+
+struct second_answer lent_joining(struct lent *l)
+{
+    return second_joining(l->arena, l->length, l->record, l->record_len);
 }
 
 struct second_fault lent_audit(const struct lent *l)

@@ -52,7 +52,8 @@ struct second_answer lent_open(struct lent *l);
 struct second_answer lent_grant(struct lent *l, uint64_t n);
 struct second_answer lent_release(struct lent *l, uint64_t mem);
 struct second_answer lent_resize(struct lent *l, uint64_t mem, uint64_t n);
-struct second_answer lent_settle(struct lent *l);
+struct second_answer lent_emptying(struct lent *l);
+struct second_answer lent_joining(struct lent *l);
 struct second_fault lent_audit(const struct lent *l);
 bool lent_sound(const struct lent *l);
 

@@ -656,7 +656,7 @@ static bool tell(const char *name, const struct report *report)
     return !report->failed;
 }
 
-/* Of a settle there is nothing to compare with. */
+/* An emptying has no counterpart in glibc. */
 static bool every_place_reached(const struct report *report)
 {
 #define PLACE_TEXT(place, text) text,
@@ -666,7 +666,7 @@ static bool every_place_reached(const struct report *report)
 
     for (unsigned i = 0; i < SECOND_PLACE_COUNT; i++) {
         uint64_t times = 0;
-        if (i == SETTLE_CONSOLIDATES)
+        if (i == EMPTYING_CONSOLIDATES)
             continue;
         for (unsigned top = 0; top < TOPS; top++)
             times += report[top].reached[i];

@@ -1,9 +1,9 @@
 /*
- * Document 01's heap, with requests (i) and (vi) of document 02. The order of
- * the file: the heap's words, the lists, joining, the numbered steps, resizing,
- * the audit, the calls. A call checks shape, then its number, then the whole
- * heap, and only then writes; from there on every offset read from the arena
- * is known to be a chunk.
+ * Document 01's heap, with requests (i), (vi) and (vii) of document 02. The
+ * order of the file: the heap's words, the lists, joining, the numbered steps,
+ * resizing, the audit, the calls. A call checks shape, then its number, then
+ * the whole heap, and only then writes; from there on every offset read from
+ * the arena is known to be a chunk.
  */
 #include "heap2.h"
 
@@ -347,7 +347,7 @@ static void consolidate(struct heap *h)
 }
 
 /*
- * Document 02, (vi): a joining that yields so much, the top included, has the
+ * Document 02, (vi): a join that yields so much, the top included, has the
  * fast chunks joined too. Answers whether it did so.
  */
 static bool release_past_cache(struct heap *h, uint32_t c)
@@ -955,8 +955,8 @@ struct second_answer second_resize(uint8_t *arena, size_t arena_len,
     return answer_block(&h, resize(&h, chunk_of(mem), chunk_size_for(n)));
 }
 
-struct second_answer second_settle(uint8_t *arena, size_t arena_len,
-                                   uint8_t *record, size_t record_len)
+struct second_answer second_emptying(uint8_t *arena, size_t arena_len,
+                                     uint8_t *record, size_t record_len)
 {
     struct heap h;
     struct marks m;
@@ -969,7 +969,20 @@ struct second_answer second_settle(uint8_t *arena, size_t arena_len,
     for (unsigned k = 0; k < CACHE_LISTS; k++)
         while ((c = cache_take(&h, k)) != NONE)
             if (release_past_cache(&h, c))
-                REACHED(SETTLE_CONSOLIDATES);
+                REACHED(EMPTYING_CONSOLIDATES);
+    return answer(GRANTED);
+}
+
+struct second_answer second_joining(uint8_t *arena, size_t arena_len,
+                                    uint8_t *record, size_t record_len)
+{
+    struct heap h;
+    struct marks m;
+    if (!shaped(&h, arena, arena_len, record, record_len))
+        return answer(BAD_SHAPE);
+    if (!sound(&h, &m))
+        return answer(NOT_SOUND);
+
     consolidate(&h);
     put(&h, LAST_REMAINDER, NONE);
     return answer(GRANTED);

@@ -1,6 +1,6 @@
 /*
- * The second program: document 01's heap in plain C, with requests (i) and
- * (vi) of document 02, written from the documents alone, so that another
+ * The second program: document 01's heap in plain C, with requests (i), (vi)
+ * and (vii) of document 02, written from the documents alone, so that another
  * implementation can be held against it.
  *
  * Each call works on an arena (lent bytes) and its control record (1,572
@@ -49,8 +49,12 @@ struct second_answer second_release(uint8_t *arena, size_t arena_len,
 struct second_answer second_resize(uint8_t *arena, size_t arena_len,
                                    uint8_t *record, size_t record_len,
                                    uint64_t mem, uint64_t n);
-struct second_answer second_settle(uint8_t *arena, size_t arena_len,
-                                   uint8_t *record, size_t record_len);
+/* The cache lists to the fast lists, or joined. */
+struct second_answer second_emptying(uint8_t *arena, size_t arena_len,
+                                     uint8_t *record, size_t record_len);
+/* The fast lists joined, the last remainder cleared. */
+struct second_answer second_joining(uint8_t *arena, size_t arena_len,
+                                    uint8_t *record, size_t record_len);
 struct second_fault second_audit(const uint8_t *arena, size_t arena_len,
                                  const uint8_t *record, size_t record_len);
 

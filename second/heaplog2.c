@@ -1,8 +1,8 @@
 /*
  * Runs a heaplog script from standard input and prints, line for line, what
- * document 01's heaplog prints, with document 02's Z for a resize. Input is fed
- * byte by byte to a line of fixed size, so a script, and a line, may be of any
- * length.
+ * document 01's heaplog prints, with document 02's Z for a resize and its two
+ * calls for an S. Input is fed byte by byte to a line of fixed size, so a
+ * script, and a line, may be of any length.
  *
  * The exit status is 0 unless reading or writing itself fails.
  */
@@ -92,6 +92,17 @@ static bool in_place(const struct run *run, const struct call *call)
         && (!opens || call->number[0] <= OPEN_MAX);
 }
 
+/* One line for both; the first refusal is told. */
+static struct second_answer empty_and_join(struct run *run)
+{
+    struct second_answer a = second_emptying(run->arena, run->arena_len,
+                                             run->record, sizeof run->record);
+    if (a.no != 0)
+        return a;
+    return second_joining(run->arena, run->arena_len, run->record,
+                          sizeof run->record);
+}
+
 static struct second_answer perform(struct run *run, const struct call *call)
 {
     switch (call->letter) {
@@ -110,8 +121,7 @@ static struct second_answer perform(struct run *run, const struct call *call)
                              sizeof run->record, call->number[0],
                              call->number[1]);
     default:
-        return second_settle(run->arena, run->arena_len, run->record,
-                             sizeof run->record);
+        return empty_and_join(run);
     }
 }
 

@@ -141,7 +141,8 @@ static void try_calls(struct random *r, struct lent *l, struct lent *before,
     expect_refused(l, before, lent_resize(l, 0, n), 3, "resize of null", seed);
     expect_refused(l, before, lent_resize(l, mem, 262145 + n), 2, "resize",
                    seed);
-    expect_refused(l, before, lent_settle(l), 3, "settle", seed);
+    expect_refused(l, before, lent_emptying(l), 3, "emptying", seed);
+    expect_refused(l, before, lent_joining(l), 3, "joining", seed);
 }
 
 static void calls_on_unsound(uint32_t rounds)
@@ -197,7 +198,9 @@ static void any_bytes(uint32_t rounds)
                            seed);
             expect_refused(&l, &before, lent_resize(&l, 0, 262145), 1,
                            "resize", seed);
-            expect_refused(&l, &before, lent_settle(&l), 1, "settle", seed);
+            expect_refused(&l, &before, lent_emptying(&l), 1, "emptying",
+                           seed);
+            expect_refused(&l, &before, lent_joining(&l), 1, "joining", seed);
         } else if (f.kind != SECOND_SOUND) {
             try_calls(&r, &l, &before, seed);
         }

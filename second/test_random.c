@@ -3,14 +3,15 @@
  * heaps, with holders that write random bytes in their blocks. After every
  * call the heap is audited and held against a model that knows only which
  * blocks were granted and what their holders wrote. A resize is also put
- * together from other calls on a copy, and every byte compared; what a release
- * leaves in the fast lists is told by the tiles before it.
+ * together from other calls on a copy, and every byte compared; what a release,
+ * an emptying and a joining leave is told by the tiles before them.
  */
 #include <stdio.h>
 #include <stdlib.h>
 #include <string.h>
 
 #include "by_parts.h"
+#include "by_tiles.h"
 #include "check.h"
 #include "oracle.h"
 #include "plain.h"
@@ -33,10 +34,13 @@ struct model {
     uint32_t grant_percent;
     uint32_t calls, refused[6];
     uint32_t resizes, moved, by_parts; /* resizes of held blocks; of any */
-    uint32_t consolidated;             /* releases that joined fast chunks */
+    uint32_t consolidated; /* releases and emptyings that joined fast chunks */
+    bool emptied; /* and no grant, release or resize since */
+    uint32_t demanded; /* joinings of which demand 3 speaks */
 };
 
-static struct plain_view view;
+static struct plain_view view;     /* after the call */
+static struct plain_view expected; /* by tiles */
 
 /* What same_everywhere must come to; it moves only with the generator. */
 #define SAME_EVERYWHERE 0x0f1fb0ff2c707e51u
@@ -184,62 +188,31 @@ static void refused_for_room(struct model *m)
            "refused with 5 and changed last remainder or cache");
 }
 
-/* Demand 3: no free chunk touches another, and nothing waits in a list. */
-static void after_settle(struct model *m)
+static void read_expected(struct model *m)
 {
+    plain_read(&expected, m->before.arena, (uint32_t)m->before.length,
+               m->before.record);
+}
+
+/* Demand 3: no free chunk touches another, and nothing waits in a list. */
+static void nothing_stays_cut_up(struct model *m)
+{
+    m->demanded++;
     for (uint32_t i = 0; i < view.tiles; i++) {
         enum plain_state state = view.tile[i].state;
         EXPECT(m, state != PLAIN_CACHED && state != PLAIN_FAST,
-               "a chunk is still cached or fast after a settle");
+               "emptied and joined, but a chunk is still cached or fast");
         EXPECT(m, i == 0 || state == PLAIN_LIVE
                       || view.tile[i - 1].state == PLAIN_LIVE,
-               "two free chunks touch after a settle");
+               "emptied and joined, but two free chunks touch");
     }
-    EXPECT(m, plain_word(m->heap.record, 2) == PLAIN_NONE32,
-           "the last remainder outlives a settle");
     if (m->blocks > 0)
         return;
     struct lent fresh = lend(m->heap.length, 0);
     lent_open(&fresh);
     EXPECT(m, view.tiles == 1 && same_record(&m->heap, &fresh),
-           "settled without blocks, but not as newly opened");
+           "emptied and joined without blocks, but not as newly opened");
     give_back(&fresh);
-}
-
-/* The size of a free neighbour that is joined, else 0. */
-static uint32_t joined(const struct plain_tile *t)
-{
-    return t->state == PLAIN_BINNED || t->state == PLAIN_TOP ? t->size : 0;
-}
-
-/*
- * Document 02, (vi): no fast list holds a chunk after a joining that yields
- * 65,536. Otherwise a release changes at most the one on which it pushes.
- */
-static void fast_lists_after_release(struct model *m, uint32_t mem)
-{
-    const struct lent *l = &m->before;
-    uint32_t i = 0, whole = 0, filled = 0;
-
-    plain_read(&view, l->arena, (uint32_t)l->length, l->record);
-    while (view.tile[i].at != mem - 16)
-        i++;
-    const struct plain_tile *t = &view.tile[i];
-    unsigned own = (t->size - 32) / 16;
-    bool cached = own < 64 && plain_word(l->record, plain_cache_count(own)) < 7;
-    if (!cached && t->size > 128)
-        whole = t->size + joined(t + 1) + (i > 0 ? joined(t - 1) : 0);
-    for (unsigned k = 0; k < 10; k++) {
-        uint32_t head = plain_word(l->record, plain_fast_head(k));
-        filled += head != PLAIN_NONE32;
-        if (whole >= 65536)
-            head = PLAIN_NONE32;
-        else if (k == own && !cached && t->size <= 128)
-            head = t->at;
-        EXPECT(m, plain_word(m->heap.record, plain_fast_head(k)) == head,
-               "a release leaves a fast list otherwise than it should");
-    }
-    m->consolidated += whole >= 65536 && filled > 0;
 }
 
 /* ---- the calls ---- */
@@ -264,6 +237,7 @@ static uint64_t random_request(struct model *m)
 static void call_grant(struct model *m, uint64_t n)
 {
     struct second_answer a = lent_grant(&m->heap, n);
+    m->emptied = false;
     if (a.no == 0) {
         EXPECT(m, a.usable >= n && a.usable % 16 == 8,
                "a grant is too short for its request");
@@ -293,20 +267,31 @@ static uint64_t random_mem(struct model *m)
     }
 }
 
+/* A held block is let go; what its release leaves is then expected. */
+static void released_by_tiles(struct model *m, uint32_t i,
+                              struct second_answer a)
+{
+    EXPECT(m, a.mem == 0 && a.usable == 0, "a release hands numbers back");
+    read_expected(m);
+    m->consolidated +=
+        release_by_tiles(&expected, &m->before, m->block[i].mem);
+    let_go(m, i);
+}
+
 static void call_release(struct model *m, uint64_t mem)
 {
     uint32_t i = find(m, mem);
     struct second_answer a = lent_release(&m->heap, mem);
     bool held = i < m->blocks;
+    m->emptied = false;
     EXPECT(m, a.no == (held || mem == 0 ? 0 : 4), "a release answers wrongly");
-    if (held) {
-        EXPECT(m, a.mem == 0 && a.usable == 0, "a release hands numbers back");
-        fast_lists_after_release(m, (uint32_t)mem);
-        let_go(m, i);
-    } else {
+    if (held)
+        released_by_tiles(m, i, a);
+    else
         refused(m, a); /* null is no refusal, but writes nothing either */
-    }
     after_call(m, false);
+    EXPECT(m, !held || same_tiles(&view, &expected),
+           "a release leaves other tiles than it should");
     if (held && random_chance(&m->r, 5) && !group_failed()) {
         copy_lent(&m->before, &m->heap);
         refused(m, lent_release(&m->heap, mem));
@@ -367,9 +352,10 @@ static void resized(struct model *m, uint32_t i, uint64_t n,
 static void call_resize(struct model *m, uint64_t mem, uint64_t n)
 {
     uint32_t i = find(m, mem);
-    bool held = i < m->blocks;
+    bool held = i < m->blocks, freed = held && n == 0;
     struct second_answer a = lent_resize(&m->heap, mem, n);
 
+    m->emptied = false;
     EXPECT(m, n > 262144 ? a.no == 2 : !held && mem != 0 ? a.no == 4
                : a.no == 0 || (a.no == 5 && (mem == 0 || n > 0)),
            "a resize is refused wrongly, or not refused");
@@ -380,14 +366,14 @@ static void call_resize(struct model *m, uint64_t mem, uint64_t n)
     } else if (!held) {
         EXPECT(m, a.usable >= n, "null is resized too short");
         hold(m, a.mem, a.usable);
-    } else if (n == 0) {
-        EXPECT(m, a.mem == 0 && a.usable == 0, "a release hands numbers back");
-        fast_lists_after_release(m, (uint32_t)mem);
-        let_go(m, i);
+    } else if (freed) {
+        released_by_tiles(m, i, a);
     } else {
         resized(m, i, n, a);
     }
     after_call(m, a.no == 0 && a.mem != 0);
+    EXPECT(m, !freed || same_tiles(&view, &expected),
+           "a resize to 0 leaves other tiles than a release");
     audited_slowly(m);
     if ((a.no == 0 || a.no == 5) && !group_failed())
         same_by_parts(m, mem, n, a);
@@ -409,13 +395,70 @@ static void random_resize(struct model *m)
     call_resize(m, mem, random_chance(&m->r, 4) ? 0 : n);
 }
 
-static void call_settle(struct model *m)
+/* The cache goes, the last remainder stays; the rest is told by tiles. */
+static void call_emptying(struct model *m)
 {
-    struct second_answer a = lent_settle(&m->heap);
-    EXPECT(m, a.no == 0 && a.mem == 0 && a.usable == 0, "a settle was refused");
+    struct second_answer a = lent_emptying(&m->heap);
+    const uint8_t *record = m->heap.record;
+
+    EXPECT(m, a.no == 0 && a.mem == 0 && a.usable == 0,
+           "an emptying was refused");
+    read_expected(m);
+    m->consolidated += emptying_by_tiles(&expected, &m->before);
     after_call(m, false);
+    EXPECT(m, same_tiles(&view, &expected),
+           "an emptying leaves other tiles than it should");
+    for (unsigned k = 0; k < 64; k++)
+        EXPECT(m, plain_word(record, plain_cache_head(k)) == PLAIN_NONE32
+                      && plain_word(record, plain_cache_count(k)) == 0,
+               "a cache list is not empty after an emptying");
+    EXPECT(m, plain_word(record, 2) == plain_word(m->before.record, 2),
+           "an emptying changed the last remainder");
+    m->emptied = true;
+}
+
+/* The fast lists and the last remainder go, the cache stays. */
+static void call_joining(struct model *m)
+{
+    struct second_answer a = lent_joining(&m->heap);
+    const uint8_t *record = m->heap.record;
+
+    EXPECT(m, a.no == 0 && a.mem == 0 && a.usable == 0,
+           "a joining was refused");
+    read_expected(m);
+    joining_by_tiles(&expected);
+    after_call(m, false);
+    EXPECT(m, same_tiles(&view, &expected),
+           "a joining leaves other tiles than it should");
+    for (unsigned k = 0; k < 10; k++)
+        EXPECT(m, plain_word(record, plain_fast_head(k)) == PLAIN_NONE32,
+               "a fast list is not empty after a joining");
+    EXPECT(m, plain_word(record, 2) == PLAIN_NONE32,
+           "the last remainder outlives a joining");
+    EXPECT(m, memcmp(record + 12, m->before.record + 12, 4 * 128) == 0,
+           "a joining changed the cache");
+    if (m->emptied && !group_failed())
+        nothing_stays_cut_up(m);
+}
+
+static void call_emptying_or_joining(struct model *m, bool emptying)
+{
+    copy_lent(&m->before, &m->heap);
+    if (emptying)
+        call_emptying(m);
+    else
+        call_joining(m);
+    m->calls++;
+}
+
+/* Of those two any number may come between them. */
+static void empty_and_join(struct model *m)
+{
+    call_emptying_or_joining(m, true);
+    while (random_chance(&m->r, 20) && !group_failed())
+        call_emptying_or_joining(m, random_chance(&m->r, 50));
     if (!group_failed())
-        after_settle(m);
+        call_emptying_or_joining(m, false);
 }
 
 static void call_with_bad_shape(struct model *m)
@@ -426,10 +469,12 @@ static void call_with_bad_shape(struct model *m)
         h->length -= 1 + random_below(&m->r, 15);
     else
         h->record_len = random_below(&m->r, PLAIN_RECORD_BYTES);
-    uint32_t n = random_below(&m->r, 300000);
-    struct second_answer a = random_chance(&m->r, 35) ? lent_grant(h, n)
-        : random_chance(&m->r, 50) ? lent_resize(h, random_mem(m), n)
-                                   : lent_settle(h);
+    uint32_t n = random_below(&m->r, 300000), drawn = random_below(&m->r, 4);
+    struct second_answer a = drawn == 0 ? lent_grant(h, n)
+        : drawn == 1                    ? lent_resize(h, random_mem(m), n)
+        : drawn == 2                    ? lent_emptying(h)
+                                        : lent_joining(h);
+    m->emptied = m->emptied && drawn >= 2;
     h->length = length;
     h->record_len = record_len;
     EXPECT(m, a.no == 1, "a bad shape was not refused with 1");
@@ -455,13 +500,17 @@ static void random_call(struct model *m)
     copy_lent(&m->before, &m->heap);
     if (drawn < 10)
         call_with_bad_shape(m);
-    else if (drawn < 25)
-        call_settle(m);
-    else if (drawn < 70)
+    else if (drawn < 17)
+        call_emptying(m);
+    else if (drawn < 24)
+        call_joining(m);
+    else if (drawn < 34)
+        empty_and_join(m);
+    else if (drawn < 79)
         call_release(m, random_mem(m));
-    else if (drawn < 80)
+    else if (drawn < 89)
         call_release(m, 0);
-    else if (drawn < 87)
+    else if (drawn < 96)
         call_burst(m);
     else if (drawn < 350)
         random_resize(m);
@@ -476,7 +525,8 @@ static void random_call(struct model *m)
 
 /* What all models of a group did. */
 struct sums {
-    uint64_t calls, refused[6], resizes, moved, by_parts, consolidated;
+    uint64_t calls, refused[6], resizes, moved, by_parts;
+    uint64_t consolidated, demanded;
 };
 
 static void add_counts(struct sums *sum, const struct model *m)
@@ -488,6 +538,7 @@ static void add_counts(struct sums *sum, const struct model *m)
     sum->moved += m->moved;
     sum->by_parts += m->by_parts;
     sum->consolidated += m->consolidated;
+    sum->demanded += m->demanded;
 }
 
 static void tell_counts(const struct sums *sum)
@@ -498,10 +549,11 @@ static void tell_counts(const struct sums *sum)
            (unsigned long long)sum->refused[4],
            (unsigned long long)sum->refused[5]);
     remark("; %llu blocks resized, %llu of them moved; %llu resizes by parts; "
-           "%llu releases consolidated",
+           "%llu times consolidated; %llu times emptied and joined",
            (unsigned long long)sum->resizes, (unsigned long long)sum->moved,
            (unsigned long long)sum->by_parts,
-           (unsigned long long)sum->consolidated);
+           (unsigned long long)sum->consolidated,
+           (unsigned long long)sum->demanded);
 }
 
 static void sequences(const char *name, bool opened, uint32_t most,
@@ -701,14 +753,12 @@ static void among_fast_chunks(uint32_t rounds)
             release_much(&m);
         else
             move_out_of_much(&m);
-        if (!group_failed()) {
-            copy_lent(&m.before, &m.heap);
-            call_settle(&m);
-        }
+        if (!group_failed())
+            empty_and_join(&m);
         add_counts(&sum, &m);
         model_free(&m);
     }
-    CHECK(sum.consolidated > 0, "no release consolidated");
+    CHECK(sum.consolidated > 0, "nothing was consolidated");
     tell_counts(&sum);
 }
 
@@ -721,9 +771,10 @@ static void twin_call(struct model *a, struct model *b)
     uint32_t i = random_below(&a->r, a->blocks);
     struct second_answer left, right;
 
-    if (random_chance(&a->r, 2)) {
-        left = lent_settle(&a->heap);
-        right = lent_settle(&b->heap);
+    if (random_chance(&a->r, 4)) {
+        bool emptying = random_chance(&a->r, 50);
+        left = emptying ? lent_emptying(&a->heap) : lent_joining(&a->heap);
+        right = emptying ? lent_emptying(&b->heap) : lent_joining(&b->heap);
     } else if (a->blocks > 0 && random_chance(&a->r, 25)) {
         uint32_t mem = a->block[i].mem;
         uint64_t n = random_chance(&a->r, 40)
@@ -804,8 +855,10 @@ static void same_everywhere(void)
             struct second_answer a = lent_grant(h, random_request(&m));
             if (i % 2 == 0)
                 lent_release(h, a.mem);
-            if (i == 7)
-                lent_settle(h);
+            if (i == 7) {
+                lent_emptying(h);
+                lent_joining(h);
+            }
         }
         damage_field(&m.r, h->arena, (uint32_t)h->length, h->record);
         damage_bytes(&m.r, h->arena, (uint32_t)h->length, h->record);

@@ -1,7 +1,7 @@
 /*
  * Document 01's figures, and traces for the places that are easy to get
- * wrong, with those of request (vi) of document 02. Every expected number here
- * was worked out by hand from the documents.
+ * wrong, with those of requests (vi) and (vii) of document 02. Every expected
+ * number here was worked out by hand from the documents.
  */
 #include <string.h>
 
@@ -90,7 +90,8 @@ static void eight_released(void)
     eight_is(192 + 16, 160);
     eight_is(256 + 8, 1024 - 256 + 1);
     grants(24, 208, 24);
-    settles();
+    empties();
+    joins();
     word_is("top", 1, 224);
     stop();
 }
@@ -157,7 +158,7 @@ static void opens(void)
     CHECK(lent_audit(&heap).kind == SECOND_RECORD, "a closed record is sound");
     CHECK(lent_grant(&heap, 24).no == 3 && lent_release(&heap, 0).no == 3
               && lent_resize(&heap, 0, 24).no == 3
-              && lent_settle(&heap).no == 3,
+              && lent_emptying(&heap).no == 3 && lent_joining(&heap).no == 3,
           "a call on a closed record was not refused with 3");
     stop();
 }
@@ -169,7 +170,8 @@ static void small_arenas(void)
         start(length);
         refuses(0, 5);
         refuses(24, 5);
-        settles();
+        empties();
+        joins();
         stop();
     }
     for (uint32_t length = 64; length <= 80; length += 16) {
@@ -178,7 +180,8 @@ static void small_arenas(void)
         refuses(0, 5);
         releases(16);
         refuses(25, 5);
-        settles();
+        empties();
+        joins();
         if (length == 80)
             grants(40, 16, 40);
         else
@@ -493,33 +496,164 @@ static void fast_moves_reversed(void)
     stop();
 }
 
-static void settle_clears_the_remainder(void)
+/* ---- document 02, (vii): emptying and joining ---- */
+
+/* With no block held, and everything joined. */
+static void record_is_new(void)
 {
-    group("settle clears the last remainder; without blocks it opens anew");
+    struct lent fresh = lend(heap.length, 0);
+    lent_open(&fresh);
+    CHECK(same_record(&heap, &fresh), "the record is not the newly opened one");
+    eight_is(8, heap.length + 1);
+    give_back(&fresh);
+}
+
+static void joining_clears_the_remainder(void)
+{
+    group("a joining clears the last remainder, an emptying leaves it");
     start(8192);
     grants(1192, 16, 1192);
     grants(24, 1216, 24);
     releases(16);
     grants(200, 16, 200);
     word_is("last remainder", 2, 208);
-    settles();
+    empties();
+    word_is("last remainder", 2, 208);
+    bin_is(1, 208, 208);
+    joins();
     word_is("last remainder", 2, NONE);
     bin_is(1, 208, 208);
     grants(200, 224, 200); /* sorted first, then split by step 7 */
     word_is("last remainder", 2, 416);
+    empties();
+    grants(200, 432, 200); /* split by step 5: it is still the remainder */
+    bin_is(1, 624, 624);
+    word_is("last remainder", 2, 624);
     releases(16);
     releases(224);
+    releases(432);
     releases(1216);
-    settles();
-    struct lent fresh = lend(8192, 0);
-    lent_open(&fresh);
-    CHECK(same_record(&heap, &fresh), "the record is not the newly opened one");
-    eight_is(8, 8193);
-    give_back(&fresh);
+    empties();
+    word_is("last remainder", 2, 624);
+    joins();
+    record_is_new();
     stop();
 }
 
-/* ---- document 02, (vi): a joining of 65,536 consolidates ---- */
+/*
+ * Blocks of 32 and 208 side by side: eight of each, so that seven of each are
+ * cached, one of 32 is fast and one of 208 in unsorted; and a last remainder.
+ */
+static void start_with_all_kinds(void)
+{
+    start(8192);
+    for (uint32_t i = 0; i < 8; i++) {
+        grants(24, 240 * i + 16, 24);
+        grants(200, 240 * i + 48, 200);
+    }
+    grants(1192, 1936, 1192); /* at 1,920 */
+    grants(24, 3136, 24);
+    releases(1936);
+    grants(296, 1936, 296); /* step 7: a rest of 896 at 2,224 */
+    for (uint32_t i = 0; i < 8; i++) {
+        releases(240 * i + 16);
+        releases(240 * i + 48);
+    }
+    cache_is(0, 1440, 7);
+    cache_is(11, 1472, 7);
+    fast_is(0, 1680);
+    bin_is(1, 1712, 2224);
+    word_is("last remainder", 2, 2224);
+}
+
+/* All that is free below the block at 1,920 is one chunk. */
+static void all_is_joined(void)
+{
+    cache_is(0, NONE, 0);
+    cache_is(11, NONE, 0);
+    fast_is(0, NONE);
+    bin_is(1, 0, 2224);
+    eight_is(8, 1920 + 1);
+    eight_is(1920, 1920);
+    eight_is(1920 + 8, 304);
+    word_is("last remainder", 2, NONE);
+    word_is("top", 1, 3152);
+}
+
+static void emptying_alone(void)
+{
+    group("an emptying leaves the fast chunks and the last remainder");
+    start_with_all_kinds();
+    empties();
+    cache_is(0, NONE, 0);
+    cache_is(11, NONE, 0);
+    fast_is(0, 0); /* on top of the one that was there */
+    for (uint32_t i = 0; i < 7; i++)
+        eight_is(240 * i + 16, 240 * i + 240);
+    eight_is(1680 + 16, PLAIN_NONE64);
+    bin_is(1, 32, 2224); /* those of 208, each by itself */
+    for (uint32_t i = 0; i < 7; i++) {
+        eight_is(240 * i + 32 + 8, 208 + 1);
+        eight_is(240 * i + 32 + 16, 240 * i + 272);
+        eight_is(240 * i + 240 + 8, 32);
+    }
+    word_is("last remainder", 2, 2224);
+    empties(); /* a second one finds nothing */
+    fast_is(0, 0);
+    bin_is(1, 32, 2224);
+    joins();
+    all_is_joined();
+    joins();
+    all_is_joined();
+    releases(1936);
+    releases(3136);
+    empties();
+    joins();
+    record_is_new();
+    stop();
+}
+
+static void joining_alone(void)
+{
+    group("a joining leaves the cache");
+    start_with_all_kinds();
+    joins();
+    cache_is(0, 1440, 7);
+    cache_is(11, 1472, 7);
+    fast_is(0, NONE);
+    bin_is(1, 1680, 2224); /* the fast one with the one behind it */
+    eight_is(1680 + 8, 240 + 1);
+    eight_is(1920, 240);
+    word_is("last remainder", 2, NONE);
+    empties(); /* in this order the small ones stay apart */
+    cache_is(0, NONE, 0);
+    cache_is(11, NONE, 0);
+    fast_is(0, 0);
+    bin_is(1, 32, 2224);
+    eight_is(1472 + 8, 448 + 1);
+    word_is("last remainder", 2, NONE);
+    joins();
+    all_is_joined();
+    stop();
+}
+
+/* A grant takes from the fast list and fills the cache with what it has. */
+static void grant_between(void)
+{
+    group("after a grant between them the cache may hold chunks again");
+    start_with_all_kinds();
+    empties();
+    grants(24, 16, 24);
+    cache_is(0, 1680, 7);
+    fast_is(0, NONE);
+    joins();
+    cache_is(0, 1680, 7);
+    bin_is(1, 32, 2224);
+    word_is("last remainder", 2, NONE);
+    stop();
+}
+
+/* ---- document 02, (vi): a join of 65,536 consolidates ---- */
 
 /*
  * Nine blocks of 32 and behind them, at 288, one of the given size. Seven of
@@ -561,7 +695,7 @@ static void eighth_was_left(bool fast, bool unsorted)
     cache_is(0, 192, 7);
 }
 
-static void joining_yields(uint32_t size, bool fast)
+static void join_yields(uint32_t size, bool fast)
 {
     bool consolidates = fast && size == 65536;
 
@@ -583,7 +717,7 @@ static void joining_yields(uint32_t size, bool fast)
 }
 
 /* The block is of 1,120; it and the top behind it are of that size. */
-static void joining_with_top_yields(uint32_t size, bool fast)
+static void join_with_top_yields(uint32_t size, bool fast)
 {
     start_behind_nine(288 + size, 1120);
     if (fast)
@@ -599,7 +733,7 @@ static void joining_with_top_yields(uint32_t size, bool fast)
 }
 
 /* A block of 1,120 behind a binned chunk, and before another or the top. */
-static void joining_with_both_yields(uint32_t size, bool fast, bool with_top)
+static void join_with_both_yields(uint32_t size, bool fast, bool with_top)
 {
     uint32_t behind = size - 32208 - 1120;
 
@@ -624,15 +758,15 @@ static void joining_with_both_yields(uint32_t size, bool fast, bool with_top)
     stop();
 }
 
-static void large_joinings(void)
+static void large_joins(void)
 {
     group("a release that yields 65,536 consolidates, one of 65,520 does not");
     for (uint32_t size = 65520; size <= 65536; size += 16)
         for (unsigned fast = 0; fast <= 1; fast++) {
-            joining_yields(size, fast);
-            joining_with_top_yields(size, fast);
-            joining_with_both_yields(size, fast, false);
-            joining_with_both_yields(size, fast, true);
+            join_yields(size, fast);
+            join_with_top_yields(size, fast);
+            join_with_both_yields(size, fast, false);
+            join_with_both_yields(size, fast, true);
         }
 }
 
@@ -713,13 +847,13 @@ static void consolidation_yields(void)
 }
 
 /*
- * Emptied in the order of the lists: 0 to a fast list; 416 into the top, of
- * which the top becomes so long that 0 is joined; 64, so before 0 in unsorted.
- * With 16 bytes less, 0 is joined at the end.
+ * Emptied in the order of the lists: 0 to a fast list; 416 into the top, which
+ * yields so much that 0 is joined; 64, so before 0 in unsorted. With 16 bytes
+ * less, 0 is left for the joining.
  */
-static void settle_halfway(void)
+static void emptying_halfway(void)
 {
-    group("a settle whose emptying yields 65,536 consolidates halfway");
+    group("an emptying in which a join yields 65,536 consolidates halfway");
     for (uint32_t size = 65520; size <= 65536; size += 16) {
         start(416 + size);
         grants(24, 16, 24);
@@ -733,10 +867,15 @@ static void settle_halfway(void)
         cache_is(0, 0, 1);
         cache_is(18, 64, 1);
         cache_is(11, 416, 1);
-        settles();
-        bin_is(1, size == 65536 ? 64 : 0, size == 65536 ? 0 : 64);
+        empties();
+        fast_is(0, size == 65536 ? NONE : 0);
+        bin_is(1, 64, size == 65536 ? 0 : 64);
         word_is("top", 1, 416);
         eight_is(416 + 8, size + 1);
+        joins();
+        fast_is(0, NONE);
+        bin_is(1, size == 65536 ? 64 : 0, size == 65536 ? 0 : 64);
+        word_is("top", 1, 416);
         stop();
     }
 }
@@ -758,11 +897,14 @@ int main(void)
     which_bin();
     refused_leaves_its_steps();
     fast_moves_reversed();
-    settle_clears_the_remainder();
-    large_joinings();
+    joining_clears_the_remainder();
+    emptying_alone();
+    joining_alone();
+    grant_between();
+    large_joins();
     fast_chunk_beside();
     pushes();
     consolidation_yields();
-    settle_halfway();
+    emptying_halfway();
     return finish();
 }

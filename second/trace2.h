@@ -36,8 +36,8 @@
     PLACE(JOIN_AFTER, "join with the chunk after")                            \
     PLACE(JOIN_BOTH, "join with both")                                        \
     PLACE(JOIN_TOP, "join with the top")                                      \
-    PLACE(JOIN_CONSOLIDATES, "a joining of 65,536 or more consolidates")      \
-    PLACE(SETTLE_CONSOLIDATES, "settle: a joining consolidates halfway")      \
+    PLACE(JOIN_CONSOLIDATES, "a join of 65,536 or more consolidates")         \
+    PLACE(EMPTYING_CONSOLIDATES, "emptying: consolidates halfway")            \
     PLACE(RESIZE_STAYS, "resize: large enough, nothing cut off")              \
     PLACE(RESIZE_SHRINKS, "resize: large enough, a rest cut off")             \
     PLACE(RESIZE_TOP, "resize: takes from the top")                           \
@@ -54,8 +54,8 @@
     PLACE(RESIZE_REST_FAST, "resize: the rest goes on a fast list")           \
     PLACE(RESIZE_REST_JOINED, "resize: the rest goes in unsorted")            \
     PLACE(RESIZE_REST_TOP, "resize: the rest becomes top")                    \
-    PLACE(RESIZE_REST_CONSOLIDATES, "resize: joining its rest consolidates")  \
-    PLACE(RESIZE_OLD_CONSOLIDATES, "resize: joining the old one consolidates")
+    PLACE(RESIZE_REST_CONSOLIDATES, "resize: the rest's join consolidates")   \
+    PLACE(RESIZE_OLD_CONSOLIDATES, "resize: the old block's join consolidates")
 
 #define SECOND_PLACE_NAME(place, text) place,
 enum second_place { SECOND_PLACES(SECOND_PLACE_NAME) SECOND_PLACE_COUNT };

@@ -52,9 +52,14 @@ void refuses_resize(uint64_t mem, uint64_t n, uint32_t no)
     answers("resize", lent_resize(&heap, mem, n), no, 0, 0);
 }
 
-void settles(void)
+void empties(void)
 {
-    answers("settle", lent_settle(&heap), 0, 0, 0);
+    answers("emptying", lent_emptying(&heap), 0, 0, 0);
+}
+
+void joins(void)
+{
+    answers("joining", lent_joining(&heap), 0, 0, 0);
 }
 
 void word_is(const char *name, unsigned word, uint32_t expected)

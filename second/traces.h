@@ -25,7 +25,8 @@ void refuses(uint64_t n, uint32_t no);
 void releases(uint64_t mem);
 void resizes(uint64_t mem, uint64_t n, uint32_t to, uint32_t usable);
 void refuses_resize(uint64_t mem, uint64_t n, uint32_t no);
-void settles(void);
+void empties(void);
+void joins(void);
 
 void word_is(const char *name, unsigned word, uint32_t expected);
 void cache_is(unsigned k, uint32_t head, uint32_t count);

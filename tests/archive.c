@@ -73,7 +73,7 @@ int main(int argc, char **argv)
     in_turn(10 * times);
     between_fast_chunks(4000 * times);
     among_fast_chunks(300 * times);
-    equal_sizes(120 * times);
+    equal_sizes(160 * times);
     sound_heaps("random sound heaps up to 8,192", 8192, 8000 * times);
     sound_heaps("random sound heaps up to 262,144", 262144, 200 * times);
     flawed_heaps(2000 * times);

@@ -37,7 +37,7 @@
 #define ROUNDS 5
 
 enum who { ARCHIVE, SECOND, WALK, WHOS };
-enum kind { PAIR, AUDIT, SETTLE, GROW, DAY };
+enum kind { PAIR, AUDIT, EMPTYING, JOINING, BOTH, GROW, DAY };
 
 static const char *const who_name[] = { "archive", "second", "walk" };
 
@@ -54,9 +54,15 @@ static const struct bench {
     { "audit-64", "audit, 64 chunks", AUDIT, 64, 16, 120 },
     { "audit-1000", "audit, 1,000 chunks", AUDIT, 1000, 4, 100 },
     { "audit-8000", "audit, 8,000 chunks", AUDIT, 8000, 1, 80 },
-    { "settle-64", "settle, 64 chunks", SETTLE, 64, 16, 12 },
-    { "settle-1000", "settle, 1,000 chunks", SETTLE, 1000, 4, 25 },
-    { "settle-8000", "settle, 8,000 chunks", SETTLE, 8000, 1, 40 },
+    { "emptying-64", "emptying, 64 chunks", EMPTYING, 64, 16, 12 },
+    { "emptying-1000", "emptying, 1,000 chunks", EMPTYING, 1000, 4, 25 },
+    { "emptying-8000", "emptying, 8,000 chunks", EMPTYING, 8000, 1, 40 },
+    { "joining-64", "joining, 64 chunks", JOINING, 64, 16, 12 },
+    { "joining-1000", "joining, 1,000 chunks", JOINING, 1000, 4, 25 },
+    { "joining-8000", "joining, 8,000 chunks", JOINING, 8000, 1, 40 },
+    { "both-64", "emptying and joining, 64 chunks", BOTH, 64, 16, 12 },
+    { "both-1000", "emptying and joining, 1,000 chunks", BOTH, 1000, 4, 25 },
+    { "both-8000", "emptying and joining, 8,000 chunks", BOTH, 8000, 1, 40 },
     { "grow-64", "resize of curves that grow, 64 chunks", GROW, 64, GROWTHS,
       12 },
     { "grow-1000", "resize of curves that grow, 1,000 chunks", GROW, 1000,
@@ -72,7 +78,7 @@ struct heap {
 };
 
 struct call {
-    char letter; /* A, G, R, Z or S, as in heaplog's scripts */
+    char letter; /* A, G, R or Z, as in heaplog's scripts; E, J: its S */
     uint32_t number, n; /* n: of a resize */
 };
 
@@ -128,8 +134,10 @@ static uint32_t call(enum who who, struct heap *h, char letter, uint64_t n)
             return heap_grant(h->arena, h->length, h->record, 1572, n).mem;
         case 'R':
             return heap_release(h->arena, h->length, h->record, 1572, n).no;
-        case 'S':
-            return heap_settle(h->arena, h->length, h->record, 1572).no;
+        case 'E':
+            return heap_emptying(h->arena, h->length, h->record, 1572).no;
+        case 'J':
+            return heap_joining(h->arena, h->length, h->record, 1572).no;
         default:
             return heap_audit(h->arena, h->length, h->record, 1572).kind;
         }
@@ -140,8 +148,10 @@ static uint32_t call(enum who who, struct heap *h, char letter, uint64_t n)
         return second_grant(h->arena, h->length, h->record, 1572, n).mem;
     case 'R':
         return second_release(h->arena, h->length, h->record, 1572, n).no;
-    case 'S':
-        return second_settle(h->arena, h->length, h->record, 1572).no;
+    case 'E':
+        return second_emptying(h->arena, h->length, h->record, 1572).no;
+    case 'J':
+        return second_joining(h->arena, h->length, h->record, 1572).no;
     default:
         return second_audit(h->arena, h->length, h->record, 1572).kind;
     }
@@ -186,6 +196,12 @@ static bool is_script(const struct bench *b)
     return b->kind == DAY || b->kind == GROW;
 }
 
+/* The heap is as before for each time; there would be nothing left to do. */
+static bool is_anew(const struct bench *b)
+{
+    return b->kind == EMPTYING || b->kind == JOINING || b->kind == BOTH;
+}
+
 static const struct call *script_call(const struct bench *b, uint32_t i)
 {
     return b->kind == DAY ? &day[i % DAY_CALLS] : &growth[i % GROWTHS];
@@ -193,7 +209,7 @@ static const struct call *script_call(const struct bench *b, uint32_t i)
 
 static void before(const struct bench *b, enum who who, uint32_t i)
 {
-    if (b->kind == SETTLE || (b->kind == GROW && i % GROWTHS == 0)) {
+    if (is_anew(b) || (b->kind == GROW && i % GROWTHS == 0)) {
         memcpy(work.record, image.record, sizeof work.record);
         memcpy(work.arena, image.arena, work.length);
     }
@@ -205,7 +221,7 @@ static void measured(const struct bench *b, enum who who, uint32_t i)
 {
     if (who == WALK) {
         sink += walk(&work);
-        if (b->kind == PAIR)
+        if (b->kind == PAIR || b->kind == BOTH)
             sink += walk(&work);
         return;
     }
@@ -217,8 +233,15 @@ static void measured(const struct bench *b, enum who who, uint32_t i)
     case AUDIT:
         sink += call(who, &work, '?', 0);
         break;
-    case SETTLE:
-        sink += call(who, &work, 'S', 0);
+    case EMPTYING:
+        sink += call(who, &work, 'E', 0);
+        break;
+    case JOINING:
+        sink += call(who, &work, 'J', 0);
+        break;
+    case BOTH:
+        sink += call(who, &work, 'E', 0);
+        sink += call(who, &work, 'J', 0);
         break;
     case GROW:
     case DAY:
@@ -241,7 +264,9 @@ static void load_case(const struct bench *b, const char *folder)
         load(folder, name, growth, sizeof growth);
     }
     snprintf(name, sizeof name, "%s-%u",
-             b->kind == PAIR ? "warm" : b->kind == GROW ? "grow" : "heap",
+             b->kind == PAIR          ? "warm"
+                 : b->kind == JOINING ? "emptied"
+                 : b->kind == GROW    ? "grow" : "heap",
              b->chunks);
     load(folder, name, &image, sizeof image);
     work = image;
@@ -305,6 +330,11 @@ static void prepare_heap(const char *folder, uint32_t chunks, uint32_t most)
     run_case(&(struct bench){ .kind = PAIR }, SECOND, 8, true);
     snprintf(name, sizeof name, "warm-%u", chunks);
     save(folder, name, &work, sizeof work);
+
+    work = image;
+    call(SECOND, &work, 'E', 0);
+    snprintf(name, sizeof name, "emptied-%u", chunks);
+    save(folder, name, &work, sizeof work);
 }
 
 /* Each curve in turn by one step, until all are as long as they become. */
@@ -328,7 +358,10 @@ static void prepare_growth(const char *folder, uint32_t chunks, uint32_t most)
     save(folder, name, growth, sizeof growth);
 }
 
-/* Curves that are kept for some heats, alarm texts, a settle each shift. */
+/*
+ * Curves that are kept for some heats, alarm texts, an emptying and then a
+ * joining each shift.
+ */
 static void prepare_day(const char *folder)
 {
     struct random r = { 48 };
@@ -344,8 +377,8 @@ static void prepare_day(const char *folder)
                                         : 20 + random_below(&r, 90), 0 };
         if (made == 0)
             c = (struct call){ 'A', DAY_BYTES, 0 };
-        else if (made % 100 == 99)
-            c = (struct call){ 'S', 0, 0 };
+        else if (made % 100 >= 98)
+            c = (struct call){ made % 100 == 98 ? 'E' : 'J', 0, 0 };
         else if (*slot != 0)
             c = (struct call){ 'R', *slot, 0 };
         uint32_t mem = call(SECOND, &work, c.letter, c.number);
@@ -392,7 +425,7 @@ static double nanoseconds(const struct bench *b, const char *folder,
                           enum who who)
 {
     uint32_t times = b->times * b->repeat;
-    bool each = b->kind == SETTLE || is_script(b);
+    bool each = is_anew(b) || is_script(b);
     double sum = 0, cost = each ? clock_cost() : 0;
 
     load_case(b, folder);

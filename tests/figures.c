@@ -127,7 +127,7 @@ void arenas(void)
 
 /*
  * Runs words such as 8G200 (eight grants), R16, Z16,24 (block 16 resized to 24
- * bytes), S; answers the last answer.
+ * bytes), E for an emptying, J for a joining; answers the last answer.
  */
 static struct second_answer run(struct pair *p, const char *script)
 {
@@ -136,7 +136,7 @@ static struct second_answer run(struct pair *p, const char *script)
         char *at;
         unsigned long times = strtoul(script, &at, 10);
         enum call call = *at == 'G' ? GRANT : *at == 'R' ? RELEASE
-            : *at == 'Z'            ? RESIZE : SETTLE;
+            : *at == 'Z'            ? RESIZE : *at == 'E' ? EMPTYING : JOINING;
         uint64_t number = strtoull(at + 1, &at, 10);
         uint64_t n = call == RESIZE ? strtoull(at + 1, &at, 10) : 0;
         for (unsigned long i = 0; i < (times == 0 ? 1 : times); i++)
@@ -179,8 +179,19 @@ void traces(void)
         { "a refused grant leaves the fast lists joined", 544,
           "16G24 R16 R48 R80 R112 R144 R176 R208 R240 R272 R304 R336 G400", 5,
           0, 0, 131, PLAIN_NONE32 },
-        { "a settle clears the last remainder", 8192,
-          "G1500 G24 R16 G200 S", 0, 0, 0, 2, PLAIN_NONE32 },
+        { "an emptying leaves the last remainder", 8192,
+          "G1500 G24 R16 G200 E", 0, 0, 0, 2, 208 },
+        { "a joining clears it", 8192, "G1500 G24 R16 G200 J", 0, 0, 0, 2,
+          PLAIN_NONE32 },
+        { "an emptying leaves the fast lists, and fills them", 1024,
+          "9G24 R16 R48 R80 R112 R144 R176 R208 R240 E", 0, 0, 0, 131, 0 },
+        { "a joining leaves the cache", 1024,
+          "9G24 R16 R48 R80 R112 R144 R176 R208 R240 J", 0, 0, 0, 67, 7 },
+        { "a grant between them finds what the emptying left", 1024,
+          "9G24 R16 R48 R80 R112 R144 R176 R208 R240 E G24 J", 0, 0, 0, 67,
+          7 },
+        { "both leave one chunk", 1024,
+          "9G24 R16 R48 R80 R112 R144 R176 R208 R240 E J", 0, 0, 0, 141, 0 },
         { "a resized block takes from the top, which keeps 32", 256,
           "G24 Z16,216", 0, 16, 216, 1, 224 },
         { "the top would keep 16: the block is sought, and refused", 256,
@@ -205,7 +216,7 @@ void traces(void)
           272, 88, 1, 352 },
         { "null is granted, a length of 0 releases", 256, "Z0,24 Z16,0", 0, 0,
           0, 67, 1 },
-        { "a joining of 65,536 joins the fast chunk too", 131072,
+        { "a join of 65,536 joins the fast chunk too", 131072,
           "9G24 G65528 G24 R16 R48 R80 R112 R144 R176 R208 R240 R304", 0, 0,
           0, 131, PLAIN_NONE32 },
         { "one of 65,520 leaves it fast", 131072,
@@ -220,10 +231,14 @@ void traces(void)
         { "a push never joins the fast chunk, whatever is behind it", 131072,
           "9G24 G1032 R16 R48 R80 R112 R144 R176 R208 R240 R304", 0, 0, 0,
           131, 224 },
-        { "a settle's emptying consolidates halfway", 65952,
-          "2G24 G312 G24 G200 R16 R80 R432 S", 0, 0, 0, 141, 64 },
-        { "with 16 bytes less at its end", 65936,
-          "2G24 G312 G24 G200 R16 R80 R432 S", 0, 0, 0, 141, 0 },
+        { "an emptying consolidates halfway", 65952,
+          "2G24 G312 G24 G200 R16 R80 R432 E", 0, 0, 0, 131, PLAIN_NONE32 },
+        { "so that what it joins then comes first", 65952,
+          "2G24 G312 G24 G200 R16 R80 R432 E J", 0, 0, 0, 141, 64 },
+        { "with 16 bytes less it does not", 65936,
+          "2G24 G312 G24 G200 R16 R80 R432 E", 0, 0, 0, 131, 0 },
+        { "and the joining's chunk comes first", 65936,
+          "2G24 G312 G24 G200 R16 R80 R432 E J", 0, 0, 0, 141, 0 },
         { "the rest of a resized block yields 65,536", 131072,
           "8G24 G65640 G24 R16 R48 R80 R112 R144 R176 R208 R240 Z272,100", 0,
           272, 104, 131, PLAIN_NONE32 },
@@ -264,16 +279,17 @@ void worked_example(void)
         { RELEASE, 16, 0, 0, 0, 80 },   { RELEASE, 16, 4, 0, 0, 80 },
         { GRANT, 0, 0, 16, 24, 80 },    { GRANT, 200, 5, 0, 0, 80 },
         { RELEASE, 48, 0, 0, 0, 80 },   { RELEASE, 16, 0, 0, 0, 80 },
-        { SETTLE, 0, 0, 0, 0, 0 },      { GRANT, 200, 0, 16, 200, 208 }
+        { EMPTYING, 0, 0, 0, 0, 80 },   { JOINING, 0, 0, 0, 0, 0 },
+        { GRANT, 200, 0, 16, 200, 208 }
     };
 
-    group("document 01's worked example");
+    group("document 01's worked example, its S as two calls");
     struct pair p = opened(256, 256);
-    for (unsigned i = 0; i < 10; i++) {
+    for (unsigned i = 0; i < sizeof line / sizeof line[0]; i++) {
         struct second_answer a = both(&p, line[i].call, line[i].number);
         CHECK(a.no == line[i].no && a.mem == line[i].mem
                   && a.usable == line[i].usable && word(&p, 1) == line[i].top,
-              "line %u of the example: %u %u %u, top %u", i + 2, a.no, a.mem,
+              "call %u of the example: %u %u %u, top %u", i + 2, a.no, a.mem,
               a.usable, word(&p, 1));
     }
     pair_free(&p);

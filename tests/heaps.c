@@ -257,7 +257,7 @@ void among_fast_chunks(uint32_t rounds)
         else
             move_out_of_much(&m);
         if (!group_failed())
-            model_settle(&m);
+            empty_and_join(&m);
         model_free(&m);
     }
     tell_calls(&before);
@@ -321,7 +321,7 @@ void sound_heaps(const char *name, uint32_t most, uint32_t rounds)
         while (m.p.calls < calls && !group_failed())
             random_call(&m);
         if (!group_failed() && i % 4 == 0)
-            model_settle(&m);
+            empty_and_join(&m);
         model_free(&m);
     }
     tell_calls(&before);
@@ -342,9 +342,9 @@ static void calls_on_any(struct pair *p, uint32_t calls)
 {
     for (uint32_t i = 0; i < calls && !group_failed(); i++) {
         bool sound = both_audits(p).kind == SECOND_SOUND;
-        uint32_t drawn = random_below(&p->r, 10);
+        uint32_t drawn = random_below(&p->r, 11);
         enum call call = drawn < 3 ? GRANT : drawn < 6 ? RELEASE
-            : drawn < 9            ? RESIZE : SETTLE;
+            : drawn < 9            ? RESIZE : drawn < 10 ? EMPTYING : JOINING;
         uint64_t number = any_number(p);
         uint64_t n = call == RESIZE ? any_number(p) : number;
         bool large = (call == GRANT || call == RESIZE) && n > 262144;

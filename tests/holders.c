@@ -188,53 +188,61 @@ static void one_free_chunk_each(struct model *m)
               "seed %llu: the held block at %u has another size word",
               (unsigned long long)m->p.seed, t->at + 16);
         CHECK(held == (t->state == PLAIN_LIVE) && !listed(t->state),
-              "seed %llu: after a settle chunk %u is held, or not, wrongly",
+              "seed %llu: emptied and joined, chunk %u is held, or not, "
+              "wrongly",
               (unsigned long long)m->p.seed, t->at);
         CHECK(held || !free_before,
-              "seed %llu: after a settle two free chunks touch at %u",
+              "seed %llu: emptied and joined, two free chunks touch at %u",
               (unsigned long long)m->p.seed, t->at);
         free_before = !held;
     }
     CHECK(found == m->blocks, "seed %llu: %u blocks held, %u found",
           (unsigned long long)m->p.seed, m->blocks, found);
     CHECK(plain_word(l->record, 1) == view.tile[view.tiles - 1].at,
-          "seed %llu: after a settle the last chunk is not the top",
-          (unsigned long long)m->p.seed);
-    CHECK(plain_word(l->record, 2) == PLAIN_NONE32,
-          "seed %llu: the last remainder outlives a settle",
+          "seed %llu: emptied and joined, the last chunk is not the top",
           (unsigned long long)m->p.seed);
 }
 
-/* Settled with no block held: the record, and some calls, as newly opened. */
+static enum call call_of(char letter)
+{
+    return letter == 'G' ? GRANT : letter == 'R' ? RELEASE
+        : letter == 'Z'  ? RESIZE : letter == 'E' ? EMPTYING : JOINING;
+}
+
+/*
+ * With no block held: the record, and some calls, as newly opened. The calls
+ * are on six blocks in turn, and leave none.
+ */
 static void as_newly_opened(struct model *m)
 {
     struct lent fresh = lend(m->p.ours.length, 0x5a);
     struct second_answer a = call_ours(&fresh, OPEN, 0, 0);
-    uint32_t granted[6] = { 0 };
+    uint32_t block[6] = { 0 }, turn = 0;
 
     CHECK(a.no == 0 && same_record(&fresh, &m->p.ours),
-          "seed %llu: settled without blocks, but the record is not the one "
-          "of a newly opened arena",
+          "seed %llu: emptied and joined without blocks, but the record is "
+          "not the one of a newly opened arena",
           (unsigned long long)m->p.seed);
-    for (unsigned i = 0; i < 18 && !group_failed(); i++) {
-        enum call call = i < 6 ? GRANT : i < 12 ? RESIZE : RELEASE;
-        uint32_t *block = &granted[i < 6 ? i : (i * 5) % 6];
-        uint64_t n = random_request(m), number = call == GRANT ? n : *block;
+    for (const char *at = "GGGGGGZZZEZZZJRRRRRREJ"; *at != '\0'; at++) {
+        enum call call = call_of(*at);
+        bool on_block = call != EMPTYING && call != JOINING;
+        uint32_t *mem = &block[turn % 6];
+        uint64_t n = random_request(m), number = call == GRANT ? n : *mem;
         struct second_answer used = call == RESIZE
             ? both_resize(&m->p, number, n) : both(&m->p, call, number);
         a = call_ours(&fresh, call, number, n);
         CHECK(same_answer(used, a) && same_record(&fresh, &m->p.ours),
-              "seed %llu: %s %llu (%llu) after a settle without blocks is "
-              "not answered as on a newly opened arena",
+              "seed %llu: %s %llu (%llu), emptied and joined without blocks, "
+              "is not answered as on a newly opened arena",
               (unsigned long long)m->p.seed, call_name[call],
               (unsigned long long)number, (unsigned long long)n);
-        if (used.no == 0)
-            *block = used.mem;
+        if (on_block && used.no == 0)
+            *mem = used.mem;
+        turn += on_block;
+        if (group_failed())
+            break;
     }
     give_back(&fresh);
-    struct second_answer settled = both(&m->p, SETTLE, 0);
-    CHECK(settled.no == 0, "seed %llu: a settle was refused",
-          (unsigned long long)m->p.seed);
 }
 
 /* ---- calls with holders ---- */
@@ -242,6 +250,7 @@ static void as_newly_opened(struct model *m)
 uint32_t model_grant(struct model *m, uint64_t n)
 {
     struct second_answer a = both(&m->p, GRANT, n);
+    m->emptied = false;
     if (group_failed())
         return 0;
     if (a.no != 0) {
@@ -263,6 +272,7 @@ void model_release(struct model *m, uint64_t mem)
 {
     bool held = holds(m, mem);
     struct second_answer a = both(&m->p, RELEASE, mem);
+    m->emptied = false;
     CHECK(a.no == (held || mem == 0 ? 0 : 4),
           "seed %llu: release %llu, %s, answered %u",
           (unsigned long long)m->p.seed, (unsigned long long)mem,
@@ -329,6 +339,7 @@ void model_resize(struct model *m, uint64_t mem, uint64_t n)
 
     copy_lent(&m->before, &m->p.ours);
     struct second_answer a = both_resize(&m->p, mem, n);
+    m->emptied = false;
     CHECK(n > 262144 ? a.no == 2 : none ? a.no == 4
               : a.no == 0 || (a.no == 5 && (mem == 0 || n > 0)),
           "seed %llu: resize %llu %llu, %s, answered %u",
@@ -352,15 +363,69 @@ void model_resize(struct model *m, uint64_t mem, uint64_t n)
     }
 }
 
-void model_settle(struct model *m)
+/* Whether that many of the record's words, from one on, have that value. */
+static bool words_are(const struct model *m, unsigned from, unsigned count,
+                      uint32_t value)
 {
-    struct second_answer a = both(&m->p, SETTLE, 0);
-    CHECK(a.no == 0 && is_sound(&m->p.ours), "seed %llu: a settle answered %u",
-          (unsigned long long)m->p.seed, a.no);
+    for (unsigned i = from; i < from + count; i++)
+        if (plain_word(m->p.ours.record, i) != value)
+            return false;
+    return true;
+}
+
+static bool words_kept(const struct model *m, unsigned from, unsigned count)
+{
+    return memcmp(m->p.ours.record + 4 * from, m->before.record + 4 * from,
+                  4 * count) == 0;
+}
+
+/* The cache goes, the last remainder stays. */
+void model_emptying(struct model *m)
+{
+    copy_lent(&m->before, &m->p.ours);
+    struct second_answer a = both(&m->p, EMPTYING, 0);
+    CHECK(a.no == 0 && is_sound(&m->p.ours),
+          "seed %llu: an emptying answered %u", (unsigned long long)m->p.seed,
+          a.no);
+    CHECK(words_are(m, plain_cache_head(0), 64, PLAIN_NONE32)
+              && words_are(m, plain_cache_count(0), 64, 0)
+              && words_kept(m, 2, 1),
+          "seed %llu: an emptying left a cache list, or changed the last "
+          "remainder", (unsigned long long)m->p.seed);
+    bytes_kept(m, "emptying");
+    m->emptied = true;
+}
+
+/* The fast lists and the last remainder go, the cache stays. */
+void model_joining(struct model *m)
+{
+    copy_lent(&m->before, &m->p.ours);
+    struct second_answer a = both(&m->p, JOINING, 0);
+    CHECK(a.no == 0 && is_sound(&m->p.ours),
+          "seed %llu: a joining answered %u", (unsigned long long)m->p.seed,
+          a.no);
+    CHECK(words_are(m, plain_fast_head(0), 10, PLAIN_NONE32)
+              && words_are(m, 2, 1, PLAIN_NONE32)
+              && words_kept(m, plain_cache_head(0), 128),
+          "seed %llu: a joining left a fast list or the last remainder, or "
+          "changed the cache", (unsigned long long)m->p.seed);
+    bytes_kept(m, "joining");
+    if (!m->emptied)
+        return;
     if (!group_failed())
         one_free_chunk_each(m);
     if (!group_failed() && m->blocks == 0)
         as_newly_opened(m);
+}
+
+/* Any number of the two may come between. */
+void empty_and_join(struct model *m)
+{
+    model_emptying(m);
+    while (random_chance(&m->p.r, 20) && !group_failed())
+        (random_chance(&m->p.r, 50) ? model_emptying : model_joining)(m);
+    if (!group_failed())
+        model_joining(m);
 }
 
 static void release_down_to(struct model *m, uint32_t keep)
@@ -399,15 +464,19 @@ void random_call(struct model *m)
     struct random *r = &m->p.r;
     uint32_t drawn = random_below(r, 1000);
 
-    if (drawn < 15)
-        model_settle(m);
-    else if (drawn < 65)
-        model_release(m, random_wrong_mem(m));
-    else if (drawn < 70)
-        model_release(m, 0);
+    if (drawn < 8)
+        model_emptying(m);
+    else if (drawn < 16)
+        model_joining(m);
+    else if (drawn < 26)
+        empty_and_join(m);
     else if (drawn < 76)
+        model_release(m, random_wrong_mem(m));
+    else if (drawn < 81)
+        model_release(m, 0);
+    else if (drawn < 87)
         release_down_to(m, random_chance(r, 20) ? 0 : random_below(r, 8));
-    else if (drawn < 82)
+    else if (drawn < 93)
         grants_in_a_row(m);
     else if (drawn < 350)
         random_resize(m);
@@ -419,14 +488,13 @@ void random_call(struct model *m)
         random_holder_writes(m);
 }
 
-/* Calls, then a settle with what is held, then one with nothing held. */
 void random_calls(struct model *m, uint32_t calls)
 {
     while (m->p.calls < calls && !group_failed())
         random_call(m);
     if (!group_failed())
-        model_settle(m);
+        empty_and_join(m);
     release_down_to(m, 0);
     if (!group_failed())
-        model_settle(m);
+        empty_and_join(m);
 }

@@ -6,8 +6,8 @@
 
 #include "heap.h"
 
-const char *const call_name[] = { "open",   "grant",  "release",
-                                  "resize", "settle", "audit" };
+const char *const call_name[] = { "open",     "grant",   "release", "resize",
+                                  "emptying", "joining", "audit" };
 
 struct tally tally;
 
@@ -42,8 +42,11 @@ struct second_answer call_ours(struct lent *l, enum call call,
         a = heap_resize(l->arena, l->length, l->record, l->record_len, number,
                         n);
         break;
-    case SETTLE:
-        a = heap_settle(l->arena, l->length, l->record, l->record_len);
+    case EMPTYING:
+        a = heap_emptying(l->arena, l->length, l->record, l->record_len);
+        break;
+    case JOINING:
+        a = heap_joining(l->arena, l->length, l->record, l->record_len);
         break;
     case AUDIT:
         break;
@@ -59,7 +62,8 @@ struct second_answer call_theirs(struct lent *l, enum call call,
     case GRANT: return lent_grant(l, number);
     case RELEASE: return lent_release(l, number);
     case RESIZE: return lent_resize(l, number, n);
-    case SETTLE: return lent_settle(l);
+    case EMPTYING: return lent_emptying(l);
+    case JOINING: return lent_joining(l);
     case AUDIT: break;
     }
     return (struct second_answer){ 0, 0, 0 };

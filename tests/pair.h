@@ -12,7 +12,7 @@
 #include "check.h"
 #include "random_heap.h"
 
-enum call { OPEN, GRANT, RELEASE, RESIZE, SETTLE, AUDIT };
+enum call { OPEN, GRANT, RELEASE, RESIZE, EMPTYING, JOINING, AUDIT };
 
 extern const char *const call_name[];
 

@@ -128,7 +128,8 @@ static void good_script(struct random *r)
     add_call(r, 'A', length);
     for (uint32_t i = 0; i < calls; i++) {
         if (random_chance(r, 3)) {
-            second_settle(arena, length, record, RECORD_BYTES);
+            second_emptying(arena, length, record, RECORD_BYTES);
+            second_joining(arena, length, record, RECORD_BYTES);
             add("S\n", 2);
         } else if (random_chance(r, live_count > 0 ? releases : 5)) {
             add_release(r);

@@ -162,7 +162,8 @@ void closed_heaps(void)
         refused_resize(&p, 0, 24, 3);
         refused_resize(&p, 16, 24, 3);
         refused_resize(&p, 16, 0, 3);
-        refused(&p, SETTLE, 0, 3);
+        refused(&p, EMPTYING, 0, 3);
+        refused(&p, JOINING, 0, 3);
         refused(&p, GRANT, 262145, 2);
         refused_resize(&p, 0, 262145, 2);
         refused_resize(&p, 16, 262145, 2);

@@ -93,7 +93,7 @@ static void take_any(struct random *r, struct lent *heap, enum call call,
 
 /*
  * Heaps on which what the call joins comes to 65,536 while a fast list holds a
- * chunk: a release and a resize of the block at 304, a settle.
+ * chunk: a release and a resize of the block at 304, an emptying.
  */
 static const struct {
     enum call call;
@@ -105,7 +105,7 @@ static const struct {
     { RESIZE, 131072,
       { 24, 24, 24, 24, 24, 24, 24, 24, 24, 65640, 40 },
       { 16, 48, 80, 112, 144, 176, 208, 240 } },
-    { SETTLE, 65952, { 24, 24, 312, 24, 200 }, { 16, 80, 432 } }
+    { EMPTYING, 65952, { 24, 24, 312, 24, 200 }, { 16, 80, 432 } }
 };
 
 static void take_consolidating(unsigned i)

@@ -16,9 +16,9 @@ use Rattle.le.specs.WordsLaws.{length-words, getD-words}
 use Rattle.sizes.specs.Offsets.{chunkOf}
 use Rattle.machine.specs.Heap.{Heap, live?}
 use Rattle.machine.specs.Writes.{Ran, ran, giving}
-use Rattle.machine.specs.Release.{release, settle}
+use Rattle.machine.specs.Release.{release}
 use Rattle.machine.specs.Audit.{sound?, auditOf}
-use Rattle.machine.specs.Calls.{after, shape?, wordsOf, heapIn, releaseCall, settleCall}
+use Rattle.machine.specs.Calls.{after, shape?, wordsOf, heapIn, releaseCall, jobCall}
 use Rattle.machine.specs.declared.Audited.{Audited}
 use Rattle.machine.specs.declared.Audited.the-variants as A
 use Rattle.machine.specs.declared.Refusal.the-variants as R
@@ -36,7 +36,7 @@ use Rattle.audit.specs.declared.Look.the-variants.{Faulty, NotLive, Live}
 use Rattle.primitives.specs.Follow.{Ok, Has, answer, Gave, Does}
 use Rattle.record_words.specs.CacheOnly.{Changes}
 use Rattle.record_words.specs.declared.Changed.{Changed}
-use Rattle.calls.specs.Ways.{Octets, kept, allowed-true, shape-allowed, settle-unsound, settle-done, release-unsound, release-null, release-dead, release-done}
+use Rattle.calls.specs.Ways.{Octets, kept, allowed-true, shape-allowed, job-unsound, job-done, release-unsound, release-null, release-dead, release-done}
 
 -- good buffers, and the record's words q
 pub record Came (a r q : List ℕ) : Type 0 where
@@ -74,18 +74,19 @@ came-has a r q f c e s =
     let k = came-sound a r q c (told a r q f c e true s) in
     subst (Has Good (arenaWords a)) (sym (c .words)) (record { heap = heapIn a r; ok = sound-ok k; holds = k .good })
 
--- ---- settle
-pub settle-refused : (a r q : List ℕ) (f : Audited) → Came a r q → f ≡ auditOf (arenaWords a) q → sound? f ≡ false → after a r (Refused R.Unsound) ≡ settleCall a r
-settle-refused a r q f c e s = settle-unsound a r (c .shape) (told a r q f c e false s)
+-- ---- the two jobs
+module _ (job : Heap → Ran (Unit {0})) (a r q : List ℕ) (f : Audited) (c : Came a r q) (e : f ≡ auditOf (arenaWords a) q) where
+  pub job-refused : sound? f ≡ false → after a r (Refused R.Unsound) ≡ jobCall job a r
+  job-refused s = job-unsound job a r (c .shape) (told a r q f c e false s)
 
-pub settle-through : (a r q b v p : List ℕ) (f : Audited) → Came a r q → f ≡ auditOf (arenaWords a) q → sound? f ≡ true → Octets b
-    → Does (Unit {0}) Good settle (arenaWords a) q tt (arenaWords b) p → v ≡ bytes 4 p → after b v Done ≡ settleCall a r
-settle-through a r q b v p f c e s o d z =
-    let t = told a r q f c e true s in
-    let k = came-sound a r q c t in
-    kept b v p Done z
-    (settle-done a r b p (c .shape) t o
-    (subst (λ (l : List ℕ). Does (Unit {0}) Good settle (arenaWords a) l tt (arenaWords b) p) (c .words) d .does (heapIn a r) (sound-ok k) (k .good)))
+  pub job-through : (b v p : List ℕ) → sound? f ≡ true → Octets b → Does (Unit {0}) Good job (arenaWords a) q tt (arenaWords b) p → v ≡ bytes 4 p
+      → after b v Done ≡ jobCall job a r
+  job-through b v p s o d z =
+      let t = told a r q f c e true s in
+      let k = came-sound a r q c t in
+      kept b v p Done z
+      (job-done job a r b p (c .shape) t o
+      (subst (λ (l : List ℕ). Does (Unit {0}) Good job (arenaWords a) l tt (arenaWords b) p) (c .words) d .does (heapIn a r) (sound-ok k) (k .good)))
 
 -- what a step changed in the words that were read, it changed in the record's
 pub came-changes : (a r q p : List ℕ) (x : Changed) → Came a r q → Changes x q p → Changes x (wordsOf r) p

@@ -14,11 +14,11 @@ use Rattle.sizes.specs.Sizes.{need, usable}
 use Rattle.machine.specs.Lists.{both}
 use Rattle.machine.specs.Heap.{Heap, sizeOf, live?}
 use Rattle.machine.specs.Writes.{size, put, apply, Ran, ran, heapOf, writes}
-use Rattle.machine.specs.Release.{release, settle}
+use Rattle.machine.specs.Release.{release}
 use Rattle.machine.specs.Grant.{grant}
 use Rattle.machine.specs.Resize.{resize}
 use Rattle.machine.specs.Audit.{sound?, auditOf}
-use Rattle.machine.specs.Calls.{After, after, left, refused, shape?, arenaAllowed?, wordsOf, heapIn, onSound, onRequest, onLive, openCall, granted, grantCall, done, releaseCall, resizeCall, settleCall, auditCall}
+use Rattle.machine.specs.Calls.{After, after, left, refused, shape?, arenaAllowed?, wordsOf, heapIn, onSound, onRequest, onLive, openCall, granted, grantCall, done, releaseCall, resizeCall, jobCall, auditCall}
 use Rattle.machine.specs.declared.{Got.Got, Got.the-variants.At, Got.the-variants.Nothing}
 use Rattle.machine.specs.declared.Audited.{Audited}
 use Rattle.machine.specs.declared.Audited.the-variants as A
@@ -103,23 +103,26 @@ on-unsound a r f e s = rw (e, onSound) (rw s)
 pub on-sound : (a r : List ℕ) (f : Heap → After) → shape? a r ≡ true → sound? (auditOf (arenaWords a) (wordsOf r)) ≡ true → f (heapIn a r) ≡ onSound a r f
 on-sound a r f e s = rw (e, onSound) (rw s)
 
--- ---- settle
-pub settle-shape : (a r : List ℕ) → shape? a r ≡ false → after a r (Refused R.Shape) ≡ settleCall a r
-unfolding settleCall
-settle-shape a r e = on-shape a r (λ h. done a (settle h)) e
-
-pub settle-unsound : (a r : List ℕ) → shape? a r ≡ true → sound? (auditOf (arenaWords a) (wordsOf r)) ≡ false → after a r (Refused R.Unsound) ≡ settleCall a r
-unfolding settleCall
-settle-unsound a r e s = on-unsound a r (λ h. done a (settle h)) e s
-
+-- ---- the two jobs
 done-is : {A : Type 0} (a : List ℕ) (s : Ran A) → done a s ≡ left a (heapOf s) (writes s) Done
 done-is a (ran h ws x) = refl
 
-pub settle-done : (a r b q : List ℕ) → shape? a r ≡ true → sound? (auditOf (arenaWords a) (wordsOf r)) ≡ true → Octets b
-    → Gave (Unit {0}) (settle (heapIn a r)) tt (arenaWords a) (arenaWords b) q → after b (bytes 4 q) Done ≡ settleCall a r
-unfolding settleCall
-settle-done a r b q e s o m =
-    left-is a b q (settle (heapIn a r)) tt Done o m ∙ sym (done-is a (settle (heapIn a r))) ∙ on-sound a r (λ h. done a (settle h)) e s
+module _ (f : Heap → Ran (Unit {0})) (a r : List ℕ) where
+  pub job-shape : shape? a r ≡ false → after a r (Refused R.Shape) ≡ jobCall f a r
+  unfolding jobCall
+  job-shape e = on-shape a r (λ h. done a (f h)) e
+
+  pub job-unsound : shape? a r ≡ true → sound? (auditOf (arenaWords a) (wordsOf r)) ≡ false → after a r (Refused R.Unsound) ≡ jobCall f a r
+  unfolding jobCall
+  job-unsound e s = on-unsound a r (λ h. done a (f h)) e s
+
+  pub job-sound : shape? a r ≡ true → sound? (auditOf (arenaWords a) (wordsOf r)) ≡ true → done a (f (heapIn a r)) ≡ jobCall f a r
+  unfolding jobCall
+  job-sound e s = on-sound a r (λ h. done a (f h)) e s
+
+  pub job-done : (b q : List ℕ) → shape? a r ≡ true → sound? (auditOf (arenaWords a) (wordsOf r)) ≡ true → Octets b
+      → Gave (Unit {0}) (f (heapIn a r)) tt (arenaWords a) (arenaWords b) q → after b (bytes 4 q) Done ≡ jobCall f a r
+  job-done b q e s o m = left-is a b q (f (heapIn a r)) tt Done o m ∙ sym (done-is a (f (heapIn a r))) ∙ job-sound e s
 
 -- ---- numbers 1, 2 and 3, of every call with a request
 both-no : (t : Bool) → both t false ≡ false

@@ -5,7 +5,7 @@ use mathlib.Core.Bool.{Bool, true, false}
 use mathlib.Core.Logic.{⊎-elim}
 use Prim.Native.Nat.{ℕ, _+_, _-_, _≤_, _<_}
 use native.Mathlib.Omega.{arith}
-use lib.Dec.{eqb, ltb, leb}
+use lib.Dec.{leb}
 use lib.ListN.{length}
 use borrow.Author.Tests.{eq-eqb, ne-eqb, lt-ltb, le-ltb, le-leb, leb-true}
 use Rattle.le.specs.Number.{bytes}
@@ -16,18 +16,18 @@ use Rattle.machine.specs.Lists.{both}
 use Rattle.machine.specs.Count.{eq?}
 use Rattle.machine.specs.Heap.{Heap, opened, sizeOf, live?}
 use Rattle.machine.specs.Writes.{size, Ran, ran, heapOf, writes}
-use Rattle.machine.specs.Release.{release, settle}
+use Rattle.machine.specs.Release.{release}
 use Rattle.machine.specs.Grant.{grant}
 use Rattle.machine.specs.Resize.{resize}
 use Rattle.machine.specs.Audit.{sound?, auditOf}
-use Rattle.machine.specs.Calls.{After, after, left, refused, arenaAllowed?, shape?, wordsOf, heapIn, closedRecord, openCall, granted, grantCall, done, releaseCall, resizeCall, settleCall}
+use Rattle.machine.specs.Calls.{After, after, left, refused, arenaAllowed?, shape?, wordsOf, heapIn, closedRecord, openCall, granted, grantCall, done, releaseCall, resizeCall, jobCall}
 use Rattle.machine.specs.declared.{Got.Got, Got.the-variants.At, Got.the-variants.Nothing}
 use Rattle.machine.specs.declared.Refusal.the-variants as R
 use Rattle.machine.specs.declared.Answer.the-variants.{Done, Granted, Refused}
 use Rattle.sound.specs.Tiles.{lt-or-le}
 use Rattle.sound.specs.Moves.{answerOf}
 use Rattle.sound.specs.Release.{both-true}
-use Rattle.calls.specs.Ways.{on-sound, request-sound, grant-request, grant-unsound, release-unsound, release-null, release-dead, release-live, resize-null, resize-zero, resize-request, resize-unsound, resize-dead, resize-live, settle-unsound}
+use Rattle.calls.specs.Ways.{request-sound, grant-request, grant-unsound, release-unsound, release-null, release-dead, release-live, resize-null, resize-zero, resize-request, resize-unsound, resize-dead, resize-live, job-unsound, job-sound}
 use Rattle.calls_consequences.specs.Results.{Lent, SoundIn, UnsoundIn, LiveMem}
 use Rattle.calls_consequences.specs.Left.{lent-shape}
 
@@ -134,13 +134,10 @@ module _ (a r : List ℕ) (L : Lent a r) (P : After → Type 0) where
       some : (n ≡ 0 → ⊥) → 1 ≤ n
       some k = ⊎-elim (λ l. absurd (k (omega arith))) (λ l. l) (lt-or-le n 1)
 
-  settle-called : SoundIn a r → done a (settle (heapIn a r)) ≡ settleCall a r
-  unfolding settleCall
-  settle-called S = on-sound a r (λ h. done a (settle h)) good S
-
-  pub settle-cases : (UnsoundIn a r → P (after a r (Refused R.Unsound)))
-      → (SoundIn a r → P (left a (heapOf (settle (heapIn a r))) (writes (settle (heapIn a r))) Done)) → P (settleCall a r)
-  settle-cases unsound through =
+  -- the two jobs, emptying and joining
+  pub job-cases : (f : Heap → Ran (Unit {0})) → (UnsoundIn a r → P (after a r (Refused R.Unsound)))
+      → (SoundIn a r → P (left a (heapOf (f (heapIn a r))) (writes (f (heapIn a r))) Done)) → P (jobCall f a r)
+  job-cases f unsound through =
       sound-or-not a r
-      (λ S. subst P (settle-called S) (done-case a (settle (heapIn a r)) P (through S)))
-      (λ U. subst P (settle-unsound a r good U) (unsound U))
+      (λ S. subst P (job-sound f a r good S) (done-case a (f (heapIn a r)) P (through S)))
+      (λ U. subst P (job-unsound f a r good U) (unsound U))

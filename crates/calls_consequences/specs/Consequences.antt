@@ -12,17 +12,17 @@ use borrow.Author.Tests.{ne-eqb, le-ltb, lt-ltb}
 use Rattle.le.specs.Number.{number, numberFrom, words, digits, bytes}
 use Rattle.le.specs.Arena.{arenaWords}
 use Rattle.le.specs.ArenaLaws.{length-arenaWords}
-use Rattle.sizes.specs.Limits.{mostRequest, recordBytes, unsorted}
+use Rattle.sizes.specs.Limits.{none32, mostRequest, recordBytes, unsorted}
 use Rattle.sizes.specs.Layout.{lengthWord}
 use Rattle.sizes.specs.Sizes.{need, usable}
 use Rattle.sizes.specs.SizesLaws.{NeedBounds, need-bounds}
 use Rattle.machine.specs.Lists.{cnt}
-use Rattle.machine.specs.Heap.{Heap, stack, bin, opened, starts, sizeOf, live?}
+use Rattle.machine.specs.Heap.{Heap, stack, cache, bin, opened, starts, sizeOf, live?}
 use Rattle.machine.specs.Writes.{size, Ran, does, heapOf, writes}
-use Rattle.machine.specs.Release.{release, settle}
+use Rattle.machine.specs.Release.{release, emptying, joining}
 use Rattle.machine.specs.Grant.{grant}
 use Rattle.machine.specs.Audit.{sound?, first, recordFault, auditOf}
-use Rattle.machine.specs.Calls.{After, after, shape?, arenaAllowed?, wordsOf, heapIn, closedRecord, openCall, grantCall, releaseCall, settleCall, auditCall}
+use Rattle.machine.specs.Calls.{After, after, shape?, arenaAllowed?, wordsOf, heapIn, closedRecord, openCall, grantCall, releaseCall, jobCall, emptyingCall, joiningCall, joinedAfter, auditCall}
 use Rattle.machine.specs.declared.{Got.Got, Got.the-variants.Nothing}
 use Rattle.machine.specs.declared.Refusal.{Refusal}
 use Rattle.machine.specs.declared.Refusal.the-variants as R
@@ -30,32 +30,36 @@ use Rattle.machine.specs.declared.Answer.{Answer}
 use Rattle.machine.specs.declared.Answer.the-variants.{Done, Granted, Refused}
 use Rattle.machine.specs.declared.Audited.{Audited}
 use Rattle.machine.specs.declared.Audited.the-variants as A
-use Rattle.sound.specs.Relation.{Loose, Good, Sound}
+use Rattle.sound.specs.Relation.{Mem, Loose, Good, Sound}
 use Rattle.sound.specs.Tiles.{start}
 use Rattle.sound.specs.Frames.{starts-all, apply-length}
 use Rattle.sound.specs.Edits.{tiled-tiles, size-32}
 use Rattle.sound.specs.Spares.{clear-of}
-use Rattle.sound.specs.Moves.{answerOf}
+use Rattle.sound.specs.Moves.{answerOf, nil, any, Moved}
 use Rattle.sound.specs.Ends.{Ends}
 use Rattle.sound.specs.Opened.{opened-ends}
 use Rattle.sound.specs.Release.{both-true}
+use Rattle.sound.specs.Drain.{NoFast}
+use Rattle.sound.specs.Emptying.{emptying-leaves}
+use Rattle.sound.specs.Joining.{Merged, joining-leaves}
 use Rattle.sound.specs.Unsorted.{unsorted-few}
-use Rattle.sound.specs.Live.{But, Gives, live-loose, loose-live, release-goes, settle-stays, grant-gives, grant-refused}
+use Rattle.sound.specs.Live.{But, Gives, live-loose, loose-live, moved-tame, release-goes, emptying-empties, joining-merges, grant-gives, grant-refused}
 use Rattle.audit.specs.Exact.{arena-words, audit-good}
 use Rattle.primitives.specs.Follow.{Has, Does}
-use Rattle.calls.specs.Ways.{allowed-true, grant-shape, grant-request, grant-unsound, release-shape, release-unsound, settle-shape, settle-unsound}
+use Rattle.calls.specs.Ways.{allowed-true, grant-shape, grant-request, grant-unsound, release-shape, release-unsound, job-shape, job-unsound}
 use Rattle.calls_consequences.specs.Written.{top-most, chunk-most}
-use Rattle.calls_consequences.specs.Remainder.{Fine, grant-fine, release-fine, settle-fine}
+use Rattle.calls_consequences.specs.Remainder.{Fine, grant-fine, release-fine, emptying-fine, joining-fine}
 use Rattle.calls_consequences.specs.Results.{Lent, SoundIn, UnsoundIn, answered, arenaLeft, recordLeft, heapLeft, LiveMem, Exactly, StaysSound, CachesKept, LiveKept, BlockAt, GrantedNew}
 use Rattle.calls_consequences.specs.Left.{lent-shape, lent-sound, lent-fine, left-heap, left-stays, left-keeps}
-use Rattle.calls_consequences.specs.Cases.{open-called, grant-cases, release-cases, settle-cases}
+use Rattle.calls_consequences.specs.Cases.{open-called, grant-cases, release-cases, job-cases}
 
 -- ---- number 3: an unsound heap is refused before the first write, and nothing changes
 pub unsound-refused : (a r : List ℕ) (n m : ℕ) → Lent a r → UnsoundIn a r → n ≤ 262144
-    → (grantCall a r n ≡ after a r (Refused R.Unsound)) × (releaseCall a r m ≡ after a r (Refused R.Unsound)) × (settleCall a r ≡ after a r (Refused R.Unsound))
+    → (grantCall a r n ≡ after a r (Refused R.Unsound)) × (releaseCall a r m ≡ after a r (Refused R.Unsound))
+    × (emptyingCall a r ≡ after a r (Refused R.Unsound)) × (joiningCall a r ≡ after a r (Refused R.Unsound))
 unsound-refused a r n m L U l =
     let e = lent-shape a r L .1 in
-    (sym (grant-unsound a r n e (le-ltb mostRequest n l) U), sym (release-unsound a r m e U), sym (settle-unsound a r e U))
+    (sym (grant-unsound a r n e (le-ltb mostRequest n l) U), sym (release-unsound a r m e U), sym (job-unsound emptying a r e U), sym (job-unsound joining a r e U))
 
 -- ---- a closed record, which a refused open leaves, is unsound with every arena of an allowed length: its length is 0
 closed-length : getD (wordsOf (bytes 4 closedRecord)) lengthWord 0 ≡ 0
@@ -74,8 +78,9 @@ closed-unsound a l =
 
 -- ---- number 1: bytes of bad shape
 pub bad-shape-refused : (a r : List ℕ) (n m : ℕ) → shape? a r ≡ false
-    → (grantCall a r n ≡ after a r (Refused R.Shape)) × (releaseCall a r m ≡ after a r (Refused R.Shape)) × (settleCall a r ≡ after a r (Refused R.Shape))
-bad-shape-refused a r n m e = (sym (grant-shape a r n e), sym (release-shape a r m e), sym (settle-shape a r e))
+    → (grantCall a r n ≡ after a r (Refused R.Shape)) × (releaseCall a r m ≡ after a r (Refused R.Shape))
+    × (emptyingCall a r ≡ after a r (Refused R.Shape)) × (joiningCall a r ≡ after a r (Refused R.Shape))
+bad-shape-refused a r n m e = (sym (grant-shape a r n e), sym (release-shape a r m e), sym (job-shape emptying a r e), sym (job-shape joining a r e))
 
 -- ---- number 2: a request above 262,144, whether the heap is sound or not
 pub large-refused : (a r : List ℕ) (n : ℕ) → Lent a r → 262144 < n → grantCall a r n ≡ after a r (Refused R.Request)
@@ -154,6 +159,18 @@ new-block h g n c G lo b dead =
     let k : c + 16 - 16 ≡ c = omega arith in
     record { block = block-at g n c G lo b; fresh = rw k (not-live h c dead) }
 
+-- ---- what the laws of the two jobs ask of one: it keeps a sound heap, its words and a last remainder that a record can hold; every loose chunk stays, and
+-- no other comes
+pub record Job (f : Heap → Ran (Unit {0})) : Type 0 where
+  pub ends : (h : Heap) (w : List ℕ) → Fine h → Mem h w → Ends (f h) w Fine
+  pub moved : (h : Heap) (w : List ℕ) → Good h → Mem h w → Moved h (f h) (any nil) nil
+
+pub emptying-job : Job emptying
+emptying-job = record { ends = emptying-fine; moved = λ h w g m. emptying-leaves h w g m .moved }
+
+pub joining-job : Job joining
+joining-job = record { ends = joining-fine; moved = λ h w g m. joining-leaves h w g m .moved }
+
 module _ (a r : List ℕ) (L : Lent a r) where
   -- nothing was written
   pub same-keeps : (c : ℕ) (x : Answer) → live? (heapIn a r) c ≡ true → LiveKept a r c (after a r x)
@@ -173,8 +190,8 @@ module _ (a r : List ℕ) (L : Lent a r) where
   release-ends : (m : ℕ) → SoundIn a r → LiveMem a r m → Ends (release (m - 16) (heapIn a r)) (arenaWords a) Fine
   release-ends m S v = release-fine (m - 16) (heapIn a r) (arenaWords a) (lent-fine a r L S) (heard S .mem) (live-loose (heapIn a r) (m - 16) (v .1))
 
-  settle-ends : SoundIn a r → Ends (settle (heapIn a r)) (arenaWords a) Fine
-  settle-ends S = settle-fine (heapIn a r) (arenaWords a) (lent-fine a r L S) (heard S .mem)
+  job-ends : (f : Heap → Ran (Unit {0})) → Job f → SoundIn a r → Ends (f (heapIn a r)) (arenaWords a) Fine
+  job-ends f J S = J .ends (heapIn a r) (arenaWords a) (lent-fine a r L S) (heard S .mem)
 
   open-ends : Ends (does (opened (length a)) (size 0 (length a) 1 ∷ [])) (arenaWords a) Fine
   open-ends =
@@ -192,8 +209,8 @@ module _ (a r : List ℕ) (L : Lent a r) where
       (λ U e. ap (after a r) e) (λ S z e. ap (after a r) e) (λ S z d e. ap (after a r) e)
       (λ S v e. clash (cc))
 
-  pub settle-refused-unchanged : (x : Refusal) → answered (settleCall a r) ≡ Refused x → settleCall a r ≡ after a r (Refused x)
-  settle-refused-unchanged x = settle-cases a r L (λ y. answered y ≡ Refused x → y ≡ after a r (Refused x))
+  pub job-refused-unchanged : (f : Heap → Ran (Unit {0})) (x : Refusal) → answered (jobCall f a r) ≡ Refused x → jobCall f a r ≡ after a r (Refused x)
+  job-refused-unchanged f x = job-cases a r L (λ y. answered y ≡ Refused x → y ≡ after a r (Refused x)) f
       (λ U e. ap (after a r) e) (λ S e. clash (cc))
 
   -- ---- number 4: a release is refused exactly if the mem is neither 0 nor a live block's
@@ -230,9 +247,9 @@ module _ (a r : List ℕ) (L : Lent a r) where
       (λ U. no-yes a r S U) (λ S z. absurd (omega (arith, v .0))) (λ S z d. absurd (d v))
       (λ S v. left-heap a r (release (m - 16) (heapIn a r)) Done L (release-ends m S v))
 
-  pub settle-heap : SoundIn a r → heapLeft (settleCall a r) ≡ heapOf (settle (heapIn a r))
-  settle-heap S = settle-cases a r L (λ x. heapLeft x ≡ heapOf (settle (heapIn a r)))
-      (λ U. no-yes a r S U) (λ S. left-heap a r (settle (heapIn a r)) Done L (settle-ends S))
+  pub job-heap : (f : Heap → Ran (Unit {0})) → Job f → SoundIn a r → heapLeft (jobCall f a r) ≡ heapOf (f (heapIn a r))
+  job-heap f J S = job-cases a r L (λ x. heapLeft x ≡ heapOf (f (heapIn a r))) f
+      (λ U. no-yes a r S U) (λ S. left-heap a r (f (heapIn a r)) Done L (job-ends f J S))
 
   -- ---- an opened heap is sound, and what is sound stays sound and of good shape in every call, refused or not
   pub open-sound : StaysSound (openCall a r)
@@ -253,8 +270,9 @@ module _ (a r : List ℕ) (L : Lent a r) where
       (λ U. same-stays (Refused R.Unsound) S) (λ S z. same-stays Done S) (λ S z d. same-stays (Refused R.NotLive) S)
       (λ S v. left-stays a r (release (m - 16) (heapIn a r)) Done L (release-ends m S v))
 
-  pub settle-stays-sound : SoundIn a r → StaysSound (settleCall a r)
-  settle-stays-sound S = settle-cases a r L StaysSound (λ U. same-stays (Refused R.Unsound) S) (λ S. left-stays a r (settle (heapIn a r)) Done L (settle-ends S))
+  pub job-stays-sound : (f : Heap → Ran (Unit {0})) → Job f → SoundIn a r → StaysSound (jobCall f a r)
+  job-stays-sound f J S = job-cases a r L StaysSound f
+      (λ U. same-stays (Refused R.Unsound) S) (λ S. left-stays a r (f (heapIn a r)) Done L (job-ends f J S))
 
   -- ---- number 5 leaves the cache lists and the last remainder as they were
   pub grant-5-keeps : (n : ℕ) → answered (grantCall a r n) ≡ Refused R.NoRoom → CachesKept a r (grantCall a r n)
@@ -266,7 +284,8 @@ module _ (a r : List ℕ) (L : Lent a r) where
       record { lists = λ k i. ap (λ (g : Heap). stack g k) H ∙ T .lists k i; remainder = ap (λ (g : Heap). g .remainder) H ∙ T .remainder })
       (λ l S c q e. clash (cc))
 
-  -- ---- no live block's usable bytes change in any call that leaves it live: in a grant and a settle all live blocks are kept, in a release all but its own
+  -- ---- no live block's usable bytes change in any call that leaves it live: in a grant, an emptying and a joining all live blocks are kept, in a release all but
+  -- its own
   pub grant-live-bytes-kept : (n c : ℕ) → live? (heapIn a r) c ≡ true → LiveKept a r c (grantCall a r n)
   grant-live-bytes-kept n c v = grant-cases a r L (LiveKept a r c) n
       (λ g. same-keeps c (Refused R.Request) v) (λ U. same-keeps c (Refused R.Unsound) v)
@@ -282,11 +301,11 @@ module _ (a r : List ℕ) (L : Lent a r) where
       (release-goes (heapIn a r) (arenaWords a) (m - 16) (heard S .good) (heard S .mem) (live-loose (heapIn a r) (m - 16) (w .1)) .tame) c
       (λ e. ne (omega (arith, w .0))) v)
 
-  pub settle-live-bytes-kept : (c : ℕ) → live? (heapIn a r) c ≡ true → LiveKept a r c (settleCall a r)
-  settle-live-bytes-kept c v = settle-cases a r L (LiveKept a r c)
+  pub job-live-bytes-kept : (f : Heap → Ran (Unit {0})) → Job f → (c : ℕ) → live? (heapIn a r) c ≡ true → LiveKept a r c (jobCall f a r)
+  job-live-bytes-kept f J c v = job-cases a r L (LiveKept a r c) f
       (λ U. same-keeps c (Refused R.Unsound) v)
-      (λ S. left-keeps a r (settle (heapIn a r)) Done L (settle-ends S) (λ x. Unit {0}) S
-      (settle-stays (heapIn a r) (arenaWords a) (heard S .good) (heard S .mem) .tame) c tt v)
+      (λ S. left-keeps a r (f (heapIn a r)) Done L (job-ends f J S) (λ x. Unit {0}) S
+      (moved-tame (λ x y. refl) (J .moved (heapIn a r) (arenaWords a) (heard S .good) (heard S .mem))) c tt v)
 
   -- ---- a released block is live no more
   pub released-gone : (m : ℕ) → SoundIn a r → LiveMem a r m → live? (heapLeft (releaseCall a r m)) (m - 16) ≡ false
@@ -313,3 +332,29 @@ module _ (a r : List ℕ) (L : Lent a r) where
       (subst (λ (j : ℕ). GrantedNew (heapIn a r) (heapOf s) (heapOf s .len) n j u) p
       (subst (λ (j : ℕ). GrantedNew (heapIn a r) (heapOf s) (heapOf s .len) n (c + 16) j) v
       (new-block (heapIn a r) (heapOf s) n c (E .now .good) (k .0) (k .1) (k .2))))))
+
+  -- ---- an emptying leaves every cache list empty; a joining every fast list, and no last remainder, and the cache lists as they were
+  pub emptying-leaves-cache-empty : SoundIn a r → (k : ℕ) → k < 64 → cache (heapLeft (emptyingCall a r)) k ≡ []
+  emptying-leaves-cache-empty S k l =
+      ap (λ (g : Heap). cache g k) (job-heap emptying emptying-job S) ∙ emptying-empties (heapIn a r) (arenaWords a) (heard S .good) (heard S .mem) .empty k l
+
+  merges : SoundIn a r → Merged (heapIn a r) (heapLeft (joiningCall a r))
+  merges S = subst (Merged (heapIn a r)) (sym (job-heap joining joining-job S)) (joining-merges (heapIn a r) (arenaWords a) (heard S .good) (heard S .mem))
+
+  pub joining-leaves-fast-empty : SoundIn a r → NoFast (heapLeft (joiningCall a r)) × (heapLeft (joiningCall a r) .remainder ≡ none32)
+  joining-leaves-fast-empty S = (merges S .empty, merges S .none)
+
+  pub joining-leaves-cache : SoundIn a r → (k : ℕ) → k < 64 → cache (heapLeft (joiningCall a r)) k ≡ cache (heapIn a r) k
+  joining-leaves-cache S = merges S .cached
+
+  -- ---- of a sound heap neither job is refused
+  pub job-sound-done : (f : Heap → Ran (Unit {0})) → SoundIn a r → answered (jobCall f a r) ≡ Done
+  job-sound-done f S = job-cases a r L (λ x. answered x ≡ Done) f (λ U. no-yes a r S U) (λ S. refl)
+
+-- ---- after a good emptying the joining is not refused
+pub emptied-joins : (a r : List ℕ) → Lent a r → answered (emptyingCall a r) ≡ Done → answered (joinedAfter (emptyingCall a r)) ≡ Done
+emptied-joins a r L = job-cases a r L (λ x. answered x ≡ Done → answered (joinedAfter x) ≡ Done) emptying
+    (λ U e. clash (cc))
+    (λ S e.
+    let k = left-stays a r (emptying (heapIn a r)) Done L (job-ends a r L emptying emptying-job S) in
+    job-sound-done _ _ (k .lent) joining (k .sound))

@@ -10,23 +10,24 @@ use Rattle.le.specs.Arena.{arenaWords}
 use Rattle.le.specs.ArenaLaws.{length-arenaWords, bytes-arenaWords}
 use Rattle.sizes.specs.Sizes.{need}
 use Rattle.sizes.specs.SizesLaws.{need-bounds}
-use Rattle.machine.specs.Writes.{Write, size, apply, writes}
-use Rattle.machine.specs.Release.{release, settle}
+use Rattle.machine.specs.Heap.{Heap}
+use Rattle.machine.specs.Writes.{Write, size, apply, Ran, writes}
+use Rattle.machine.specs.Release.{release, emptying, joining}
 use Rattle.machine.specs.Grant.{grant}
 use Rattle.machine.specs.Resize.{resize}
-use Rattle.machine.specs.Calls.{After, wordsOf, heapIn, openCall, grantCall, releaseCall, resizeCall, settleCall}
+use Rattle.machine.specs.Calls.{After, wordsOf, heapIn, openCall, grantCall, releaseCall, resizeCall, jobCall, emptyingCall, joiningCall}
 use Rattle.sound.specs.Relation.{Sound}
 use Rattle.sound.specs.Frames.{apply-length}
 use Rattle.sound.specs.Spares.{Past, past-first}
 use Rattle.sound.specs.Release.{release-leaves}
-use Rattle.sound.specs.Settle.{settle-leaves}
 use Rattle.sound.specs.Grant.{grant-leaves}
 use Rattle.sound.specs.Resize.{resize-resized}
 use Rattle.sound.specs.Live.{live-loose}
 use Rattle.calls_consequences.specs.Bytes.{byte-same}
 use Rattle.calls_consequences.specs.Results.{Lent, SoundIn, arenaLeft, LiveMem}
 use Rattle.calls_consequences.specs.Left.{lent-sound}
-use Rattle.calls_consequences.specs.Cases.{open-called, grant-cases, release-cases, resize-cases, settle-cases}
+use Rattle.calls_consequences.specs.Cases.{open-called, grant-cases, release-cases, resize-cases, job-cases}
+use Rattle.calls_consequences.specs.Consequences.{Job, emptying-job, joining-job}
 
 -- a call that leaves bytes 0 to 7 of the arena a as they were
 abbrev pub FirstKept : List ℕ → After → Type 0
@@ -50,9 +51,6 @@ module _ (a r : List ℕ) (L : Lent a r) where
   release-past : (m : ℕ) → SoundIn a r → LiveMem a r m → Past (writes (release (m - 16) (heapIn a r)))
   release-past m S v = release-leaves (heapIn a r) (arenaWords a) (m - 16) (heard S .good) (heard S .mem) (live-loose (heapIn a r) (m - 16) (v .1)) .moved .past
 
-  settle-past : SoundIn a r → Past (writes (settle (heapIn a r)))
-  settle-past S = settle-leaves (heapIn a r) (arenaWords a) (heard S .good) (heard S .mem) .moved .past
-
   resize-past : (m n : ℕ) → SoundIn a r → LiveMem a r m → Past (writes (resize (m - 16) (need n) (heapIn a r)))
   resize-past m n S v =
       resize-resized (heapIn a r) (arenaWords a) (m - 16) (need n) (heard S .good) (heard S .mem) (live-loose (heapIn a r) (m - 16) (v .1)) (need-bounds n .whole) (need-bounds n .least)
@@ -70,8 +68,9 @@ module _ (a r : List ℕ) (L : Lent a r) where
   release-first m = release-cases a r L (FirstKept a) m
       (λ U i j. refl) (λ S z i j. refl) (λ S z d i j. refl) (λ S v. kept (writes (release (m - 16) (heapIn a r))) (release-past m S v))
 
-  settle-first : FirstKept a (settleCall a r)
-  settle-first = settle-cases a r L (FirstKept a) (λ U i j. refl) (λ S. kept (writes (settle (heapIn a r))) (settle-past S))
+  job-first : (f : Heap → Ran (Unit {0})) → Job f → FirstKept a (jobCall f a r)
+  job-first f J = job-cases a r L (FirstKept a) f (λ U i j. refl)
+      (λ S. kept (writes (f (heapIn a r))) (J .moved (heapIn a r) (arenaWords a) (heard S .good) (heard S .mem) .past))
 
   resize-first : (m n : ℕ) → FirstKept a (resizeCall a r m n)
   resize-first m n =
@@ -81,5 +80,6 @@ module _ (a r : List ℕ) (L : Lent a r) where
       (λ k i S v q. kept ws (resize-past m n S v)) (λ k i S v c q. kept ws (resize-past m n S v))
 
   pub first-bytes-kept : (m n : ℕ) → FirstKept a (openCall a r) × FirstKept a (grantCall a r n) × FirstKept a (releaseCall a r m)
-      × FirstKept a (resizeCall a r m n) × FirstKept a (settleCall a r)
-  first-bytes-kept m n = (open-first, grant-first n, release-first m, resize-first m n, settle-first)
+      × FirstKept a (resizeCall a r m n) × FirstKept a (emptyingCall a r) × FirstKept a (joiningCall a r)
+  first-bytes-kept m n =
+      (open-first, grant-first n, release-first m, resize-first m n, job-first emptying emptying-job, job-first joining joining-job)

@@ -13,7 +13,7 @@ use Rattle.machine.specs.Lists.{both, hd, lst, some?, cnt}
 use Rattle.machine.specs.Heap.{Heap, stack, cache, fastAt, fast, bin, anyFast?, topOf, topSize, sizeOf, pOf, next, before, binned, binHas}
 use Rattle.machine.specs.Writes.{Write, apply, Ran, ran, heapOf, writes, does, giving, more, _>>=_, _orElse_}
 use Rattle.machine.specs.Primitives.{push, pop, pushCache, linkIn, putFirst, unlink, clearP, setP, toTop, cutTop, setRemainder, widen, trimAt, growTop}
-use Rattle.machine.specs.Release.{absorb, joinNext, putDown, join, drain, drains, consolidate, joined, releasePast, release, settle}
+use Rattle.machine.specs.Release.{absorb, joinNext, putDown, join, drain, drains, consolidate, joined, releasePast, release, emptying, joining}
 use Rattle.machine.specs.Grant.{roomFor?, step1, moveFast, step2, takeLast, moveLasts, step3, step4, split, front, behind, sortIn, lone?, splitLone, keep, turnAt, turn, swept, afterTurn, sweep, step5, carve, step8, fit, step6, firstBin, step7, step9, pass, again, from4, seek, grant}
 use Rattle.machine.specs.Resize.{nextP, finish, copies, moved, resize}
 use Rattle.machine.specs.declared.{Got.Got, Got.the-variants.At, Got.the-variants.Nothing, Turn.Turn}
@@ -22,8 +22,8 @@ use Rattle.sound.specs.Relation.{Mem, Loose, Good}
 use Rattle.sound.specs.Ends.{Ends, ends-more, ends-then}
 use Rattle.sound.specs.Small.{some-has}
 use Rattle.sound.specs.Large.{fit-has, firstBin-has}
-use Rattle.sound.specs.Live.{consolidate-empties, settle-empties}
-use Rattle.sound.specs.Keeps.{release-ends, consolidate-ends, settle-ends, step1-ends, step2-ends, step3-ends, turn-ends, step5-ends, step6-ends, step7-ends, step9-ends, resize-ends}
+use Rattle.sound.specs.Live.{consolidate-empties, emptying-empties, joining-merges}
+use Rattle.sound.specs.Keeps.{release-ends, consolidate-ends, emptying-ends, joining-ends, step1-ends, step2-ends, step3-ends, turn-ends, step5-ends, step6-ends, step7-ends, step9-ends, resize-ends}
 use Rattle.calls_consequences.specs.Written.{bin-most}
 
 abbrev Low : {A : Type 0} → Ran A → Type 0
@@ -257,7 +257,7 @@ module _ (b : ℕ) (b16 : b % 16 ≡ 0) (b32 : 32 ≤ b) (most : b ≤ 262160) w
   unfolding grant
   grant-fine h w F m = fine-else (seek b) (fine-of (step1-ends b b16 b32 h w (F .good) m) (step1-low b h (F .low))) seek-fine
 
--- ---- release and settle
+-- ---- release, emptying, joining
 joinNext-low : (c : ℕ) (h : Heap) → h .remainder ≤ none32 → Low (joinNext c h)
 unfolding joinNext absorb
 joinNext-low c h l = low-if (eqb (binned h (next h c)) 0) (does h []) (absorb (next h c) c h) (λ e. l) (λ e. l)
@@ -307,8 +307,11 @@ release-low c h l =
 pub release-fine : (c : ℕ) (h : Heap) (w : List ℕ) → Fine h → Mem h w → Loose h c → Ends (release c h) w Fine
 release-fine c h w F m lo = fine-of (release-ends h w c (F .good) m lo) (release-low c h (F .low))
 
-pub settle-fine : (h : Heap) (w : List ℕ) → Fine h → Mem h w → Ends (settle h) w Fine
-settle-fine h w F m = fine-of (settle-ends h w (F .good) m) (subst (λ (n : ℕ). n ≤ none32) (sym (settle-empties h w (F .good) m .none)) (omega arith))
+pub emptying-fine : (h : Heap) (w : List ℕ) → Fine h → Mem h w → Ends (emptying h) w Fine
+emptying-fine h w F m = fine-of (emptying-ends h w (F .good) m) (subst (λ (n : ℕ). n ≤ none32) (sym (emptying-empties h w (F .good) m .remainder)) (F .low))
+
+pub joining-fine : (h : Heap) (w : List ℕ) → Fine h → Mem h w → Ends (joining h) w Fine
+joining-fine h w F m = fine-of (joining-ends h w (F .good) m) (subst (λ (n : ℕ). n ≤ none32) (sym (joining-merges h w (F .good) m .none)) (omega arith))
 
 -- ---- resize
 nextP-low : (c : ℕ) (h : Heap) → h .remainder ≤ none32 → Low (nextP c h)

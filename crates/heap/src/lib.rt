@@ -1,7 +1,7 @@
 // The calls as C sees them: arena bytes, control record bytes and a number or two, answered by three numbers. Each is the machine's call on the same bytes, with
 // document 01's numbers for its answer; include/heap.h says the same in C's words.
 ghost use mathlib.Core.Path.{_≡_};
-ghost use Rattle.machine.specs.Calls.{faultNumbers, listNumbers, openCall, grantCall, releaseCall, resizeCall, settleCall, auditCall};
+ghost use Rattle.machine.specs.Calls.{faultNumbers, listNumbers, openCall, grantCall, releaseCall, resizeCall, emptyingCall, joiningCall, auditCall};
 ghost use Rattle.heap.specs.Exported.{back, numbered};
 use machine::Audited;
 use machine::HeapAnswer;
@@ -97,10 +97,18 @@ pub extern "C" fn heap_resize(arena: &mut [u8], control: &mut [u8], mem: u64, n:
 }
 
 #[no_mangle]
-pub extern "C" fn heap_settle(arena: &mut [u8], control: &mut [u8]) -> HeapAnswer
-    ensures { λ x. ⌜ back (now (arena .exit)) (now (control .exit)) x ≡ numbered (settleCall (now (arena .entry)) (now (control .entry))) ⌝ }
+pub extern "C" fn heap_emptying(arena: &mut [u8], control: &mut [u8]) -> HeapAnswer
+    ensures { λ x. ⌜ back (now (arena .exit)) (now (control .exit)) x ≡ numbered (emptyingCall (now (arena .entry)) (now (control .entry))) ⌝ }
 {
-    let x = calls::settle(arena, control);
+    let x = calls::emptying(arena, control);
+    answer_numbers(x)
+}
+
+#[no_mangle]
+pub extern "C" fn heap_joining(arena: &mut [u8], control: &mut [u8]) -> HeapAnswer
+    ensures { λ x. ⌜ back (now (arena .exit)) (now (control .exit)) x ≡ numbered (joiningCall (now (arena .entry)) (now (control .entry))) ⌝ }
+{
+    let x = calls::joining(arena, control);
     answer_numbers(x)
 }
 

@@ -16,7 +16,7 @@ use Rattle.sizes.specs.SizesLaws.{need-bounds}
 use Rattle.machine.specs.Lists.{both}
 use Rattle.machine.specs.Heap.{Heap, live?, sizeOf, recordOf}
 use Rattle.machine.specs.Writes.{Ran, ran, heapOf, apply}
-use Rattle.machine.specs.Release.{release, settle}
+use Rattle.machine.specs.Release.{release, emptying, joining}
 use Rattle.machine.specs.Grant.{grant}
 use Rattle.machine.specs.Resize.{resize}
 use Rattle.machine.specs.Calls as C
@@ -28,11 +28,12 @@ use Rattle.sound.specs.Tiles.{lt-or-le}
 use Rattle.sound.specs.Ends.{Ends}
 use Rattle.sound.specs.Release.{both-true}
 use Rattle.sound.specs.Live.{live-loose}
-use Rattle.history.specs.Histories.{Event, Grant, Release, Resize, Settle, Store, Block, holds?, drop, State, state, heapAt, granted, released, resized, settled, next, run, answerOf, answerTo, answers}
+use Rattle.history.specs.Histories.{Event, Grant, Release, Resize, Emptying, Joining, Store, Block, holds?, drop, State, state, heapAt, granted, released, resized, kept, next, run, answerOf, answerTo, answers}
 use Rattle.calls_consequences.specs.Written.{written-read}
-use Rattle.calls_consequences.specs.Remainder.{Fine, grant-fine, release-fine, resize-fine, settle-fine}
+use Rattle.calls_consequences.specs.Remainder.{Fine, grant-fine, release-fine, resize-fine}
+use Rattle.calls_consequences.specs.Consequences.{Job, emptying-job, joining-job}
 use Rattle.history.specs.Ready.{Ready, ReadyAt, ready-fine}
-use Rattle.history.specs.Called.{grant-large, grant-called, release-called, settle-called, Way, Null, Zero, Large, Dead, Through, way, resizeBy, resize-called}
+use Rattle.history.specs.Called.{grant-large, grant-called, release-called, job-called, Way, Null, Zero, Large, Dead, Through, way, resizeBy, resize-called}
 use Rattle.history.specs.Stores.{store-view}
 use Rattle.history.specs.Runs.{resized-null, resized-zero, next-ready}
 
@@ -55,7 +56,8 @@ pub record Steady (Q : Heap → Heap → Type 0) (M : Event → Heap → Heap �
       → Q (heapOf (resize (m - 16) (need n) h)) (heapOf (resize (m - 16) (need n) g))
   pub nulls : (h g : Heap) (n : ℕ) → M (Resize 0 n) h g → M (Grant n) h g
   pub zeros : (h g : Heap) (m : ℕ) → M (Resize m 0) h g → M (Release m) h g
-  pub settles : (h g : Heap) → Good h → Good g → Q h g → M Settle h g → Q (heapOf (settle h)) (heapOf (settle g))
+  pub empties : (h g : Heap) → Good h → Good g → Q h g → M Emptying h g → Q (heapOf (emptying h)) (heapOf (emptying g))
+  pub joins : (h g : Heap) → Good h → Good g → Q h g → M Joining h g → Q (heapOf (joining h)) (heapOf (joining g))
 
 abbrev pub Alike : (Heap → Heap → Type 0) → State → State → Type 0
 Alike Q (state a r bs) (state a′ r′ bs′) = Q (C.heapIn a r) (C.heapIn a′ r′) × (bs ≡ bs′)
@@ -93,9 +95,9 @@ module _ (Q : Heap → Heap → Type 0) (a a′ : List ℕ) where
   resize-alike m bs (ran g ws Nothing) (ran g′ ws′ (At c′)) E E′ e q = absurd (let z : _≡_ {A = ℕ} 0 1 = cc in omega arith)
   resize-alike m bs (ran g ws Nothing) (ran g′ ws′ Nothing) E E′ e q = grant-alike bs (ran g ws Nothing) (ran g′ ws′ Nothing) E E′ e q
 
-  settle-alike : {A : Type 0} (bs : List Block) (x x′ : Ran A) → Ends x (arenaWords a) Fine → Ends x′ (arenaWords a′) Fine → Q (heapOf x) (heapOf x′)
-      → (answerOf (C.done a x) ≡ answerOf (C.done a′ x′)) × Alike Q (settled bs (C.done a x)) (settled bs (C.done a′ x′))
-  settle-alike bs (ran g ws y) (ran g′ ws′ y′) E E′ q =
+  job-alike : {A : Type 0} (bs : List Block) (x x′ : Ran A) → Ends x (arenaWords a) Fine → Ends x′ (arenaWords a′) Fine → Q (heapOf x) (heapOf x′)
+      → (answerOf (C.done a x) ≡ answerOf (C.done a′ x′)) × Alike Q (kept bs (C.done a x)) (kept bs (C.done a′ x′))
+  job-alike bs (ran g ws y) (ran g′ ws′ y′) E E′ q =
       (refl, (read g g′ (apply ws (arenaWords a)) (apply ws′ (arenaWords a′)) (E .now) (E .mem) (E′ .now) (E′ .mem) q, refl))
 
 -- ---- the events, with the same blocks
@@ -127,12 +129,12 @@ module _ (Q : Heap → Heap → Type 0) (M : Event → Heap → Heap → Type 0)
       (K .answer h h′ (R .sound .good) (R′ .sound .good) q n k) (K .grants h h′ (R .sound .good) (R′ .sound .good) q n k)))
       (lt-or-le 262144 n)
 
-  settle-both : M Settle h h′ → Both settled (C.settleCall a r) (C.settleCall a′ r′)
-  settle-both k =
-      by settled (C.settleCall a r) (C.done a (settle h)) (C.settleCall a′ r′) (C.done a′ (settle h′))
-      (settle-called a r (R .lent) (R .sound)) (settle-called a′ r′ (R′ .lent) (R′ .sound))
-      (settle-alike Q a a′ bs (settle h) (settle h′) (settle-fine h (arenaWords a) (ready-fine a r bs R) (R .sound .mem))
-      (settle-fine h′ (arenaWords a′) (ready-fine a′ r′ bs R′) (R′ .sound .mem)) (K .settles h h′ (R .sound .good) (R′ .sound .good) q k))
+  job-both : (f : Heap → Ran (Unit {0})) → Job f → Q (heapOf (f h)) (heapOf (f h′)) → Both kept (C.jobCall f a r) (C.jobCall f a′ r′)
+  job-both f J k =
+      by kept (C.jobCall f a r) (C.done a (f h)) (C.jobCall f a′ r′) (C.done a′ (f h′))
+      (job-called a r (R .lent) (R .sound) f) (job-called a′ r′ (R′ .lent) (R′ .sound) f)
+      (job-alike Q a a′ bs (f h) (f h′) (J .ends h (arenaWords a) (ready-fine a r bs R) (R .sound .mem))
+      (J .ends h′ (arenaWords a′) (ready-fine a′ r′ bs R′) (R′ .sound .mem)) k)
 
   -- release, by its tests
   live-same : (m : ℕ) → both (leb 16 m) (live? h′ (m - 16)) ≡ both (leb 16 m) (live? h (m - 16))
@@ -219,7 +221,12 @@ module _ (Q : Heap → Heap → Type 0) (M : Event → Heap → Heap → Type 0)
   same-blocks (Grant n) k = let b = grant-both n k in (ap (λ (x : Answer). x ∷ []) (b .0), b .1)
   same-blocks (Release m) k = let b = release-both m k in (ap (λ (x : Answer). x ∷ []) (b .0), b .1)
   same-blocks (Resize m n) k = let b = resize-both m n k in (ap (λ (x : Answer). x ∷ []) (b .0), b .1)
-  same-blocks Settle k = let b = settle-both k in (ap (λ (x : Answer). x ∷ []) (b .0), b .1)
+  same-blocks Emptying k =
+      let b = job-both emptying emptying-job (K .empties h h′ (R .sound .good) (R′ .sound .good) q k) in
+      (ap (λ (x : Answer). x ∷ []) (b .0), b .1)
+  same-blocks Joining k =
+      let b = job-both joining joining-job (K .joins h h′ (R .sound .good) (R′ .sound .good) q k) in
+      (ap (λ (x : Answer). x ∷ []) (b .0), b .1)
   same-blocks (Store p v) k = (refl, store-both p v (holds? bs p) refl)
 
 -- M holds of every event of a run, of the two heaps before it
@@ -265,7 +272,8 @@ equal-steady = record {
   resizes = λ h g G G′ e m n i l. ap (λ (k : Heap). heapOf (resize (m - 16) (need n) k)) e;
   nulls = λ h g n i. tt;
   zeros = λ h g m i. tt;
-  settles = λ h g G G′ e i. ap (λ (k : Heap). heapOf (settle k)) e;
+  empties = λ h g G G′ e i. ap (λ (k : Heap). heapOf (emptying k)) e;
+  joins = λ h g G G′ e i. ap (λ (k : Heap). heapOf (joining k)) e;
 }
 
 pub any-always : (es : List Event) (s t : State) → Always Any es s t

@@ -14,12 +14,12 @@ use Rattle.sizes.specs.Limits.{mostRequest}
 use Rattle.sizes.specs.Sizes.{need}
 use Rattle.machine.specs.Lists.{both}
 use Rattle.machine.specs.Heap.{Heap, live?, opened}
-use Rattle.machine.specs.Writes.{size}
-use Rattle.machine.specs.Release.{release, settle}
+use Rattle.machine.specs.Writes.{size, Ran}
+use Rattle.machine.specs.Release.{release}
 use Rattle.machine.specs.Grant.{grant}
 use Rattle.machine.specs.Resize.{resize}
 use Rattle.machine.specs.Audit.{sound?, auditOf}
-use Rattle.machine.specs.Calls.{After, after, left, shape?, arenaAllowed?, heapIn, wordsOf, onSound, refused, closedRecord, granted, done, openCall, grantCall, releaseCall, resizeCall, settleCall}
+use Rattle.machine.specs.Calls.{After, after, left, shape?, arenaAllowed?, heapIn, wordsOf, onSound, refused, closedRecord, granted, done, openCall, grantCall, releaseCall, resizeCall, jobCall}
 use Rattle.machine.specs.declared.Refusal.the-variants as R
 use Rattle.machine.specs.declared.Answer.the-variants.{Done, Refused}
 use Rattle.sound.specs.Relation.{Sound}
@@ -119,9 +119,9 @@ module _ (a r : List ℕ) (L : Lent a r) (S : Sound (heapIn a r) (arenaWords a) 
     ]
   ])
 
-  pub settle-called : settleCall a r ≡ done a (settle (heapIn a r))
-  unfolding settleCall
-  settle-called = on-sound (λ h. done a (settle h))
+  pub job-called : (f : Heap → Ran (Unit {0})) → jobCall f a r ≡ done a (f (heapIn a r))
+  unfolding jobCall
+  job-called f = on-sound (λ h. done a (f h))
 
   pub resize-called : (m n : ℕ) (w : Way (heapIn a r) m n) → resizeCall a r m n ≡ resizeBy a r m n w
   resize-called m n (Null z) = sym (resize-null a r m n z)

@@ -1,5 +1,5 @@
--- Demand 3, stated of offsets, bytes and numbers: what is free after a settle, which blocks are live, what an emptied heap is, and all of it of what was
--- performed (Demand). Definitions only; that it holds of every history stands in Theorem.
+-- Demand 3, stated of offsets, bytes and numbers: what is free after an emptying and, with no grant, release or resize between, a joining; which blocks are
+-- live, what an emptied heap is, and all of it of what was performed (Demand). Definitions only; that it holds of every history stands in Theorem.
 use mathlib.Core.Path.{_≡_}
 use mathlib.Core.List.{List, [], _∷_}
 use mathlib.Core.Bool.{Bool, false}
@@ -13,7 +13,7 @@ use Rattle.machine.specs.Heap.{binned, live?}
 use Rattle.machine.specs.Calls.{heapIn, auditCall, faultNumbers}
 use Rattle.machine.specs.declared.HeapAnswer.{HeapAnswer}
 use Rattle.calls_consequences.specs.Results.{Lent}
-use Rattle.history.specs.Histories.{Event, Block, State, state, recordIn, blocksIn}
+use Rattle.history.specs.Histories.{Event, Grant, Release, Resize, Emptying, Joining, Store, Block, State, state, recordIn, blocksIn}
 use Rattle.history.specs.Performed.{Began, Did}
 
 -- offset x lies in the chunk of the block b: its header and all its usable bytes but the last eight, which are the next chunk's previous size
@@ -83,6 +83,19 @@ AllFair (x ∷ xs) = Fair x × AllFair xs
 abbrev pub Zeros : HeapAnswer → Type 0
 Zeros x = x ≡ record { no = 0; mem = 0; usable = 0 }
 
+-- ---- what may stand between an emptying and its joining: no grant, release or resize, refused or not. Further emptyings and joinings may, and holders' stores
+abbrev pub Between : Event → Type 0
+Between (Grant n) = ⊥
+Between (Release m) = ⊥
+Between (Resize m n) = ⊥
+Between Emptying = Unit {0}
+Between Joining = Unit {0}
+Between (Store p v) = Unit {0}
+
+abbrev pub Quiet : List Event → Type 0
+Quiet [] = Unit {0}
+Quiet (e ∷ es) = Between e × Quiet es
+
 -- ---- a state is as a newly opened arena of n bytes: whatever bytes b and q were opened, o, the same events performed on both are answered with the same
 -- numbers and leave the same record, none (the record that there is), one or many
 pub record New (n : ℕ) (s : State) : Type 0 where
@@ -91,14 +104,18 @@ pub record New (n : ℕ) (s : State) : Type 0 where
   pub recs : (b q : List ℕ) (x : HeapAnswer) (o : State) → Lent b q → length b ≡ n → Began b q x o
       → (es : List Event) (xs ys : List HeapAnswer) (t u : State) → Did s es xs t → Did o es ys u → recordIn t ≡ recordIn u
 
--- ---- demand 3 of a history that was performed on an arena of n bytes: the open answered x, the calls xs and it left t; then a settle answered y and left u.
--- No call is refused for shape or soundness, an audit finds no fault, the live blocks are those granted and not yet released (a resized block is both), and
--- the settle is not refused, leaves nothing cut up, and, where no block is held, a new heap
-pub record Demand (n : ℕ) (x : HeapAnswer) (xs : List HeapAnswer) (t : State) (y : HeapAnswer) (u : State) : Type 0 where
+-- ---- demand 3 of a history that was performed on an arena of n bytes: the open answered x, the calls xs and it left t; then an emptying answered y; then,
+-- with no grant, release or resize between, calls answered ys and it left v; then a joining answered z and left w. No call is refused for shape or soundness,
+-- an audit finds no fault, the live blocks are those granted and not yet released (a resized block is both), emptying and joining are not refused, between
+-- them an audit finds no fault either, and the joining leaves nothing cut up and, where no block is held, a new heap
+pub record Demand (n : ℕ) (x : HeapAnswer) (xs : List HeapAnswer) (t : State) (y : HeapAnswer) (ys : List HeapAnswer) (v : State) (z : HeapAnswer) (w : State) : Type 0 where
   pub opens : Zeros x
   pub fair : AllFair xs
   pub audits : AuditsAt t
   pub live : LiveAt t
-  pub settles : Zeros y
-  pub mended : MendedAt u
-  pub emptied : blocksIn u ≡ [] → New n u
+  pub empties : Zeros y
+  pub between : AllFair ys
+  pub halfway : AuditsAt v
+  pub joins : Zeros z
+  pub mended : MendedAt w
+  pub emptied : blocksIn w ≡ [] → New n w

@@ -1,4 +1,4 @@
--- Demand 3, second half: where no block is held after a settle, the heap that is read is the opened one, so record and all later answers are a new arena's,
+-- Demand 3, second half: where no block is held after an emptying and its joining, the heap that is read is the opened one, so record and all later answers are a new arena's,
 -- whatever bytes the two arenas hold. Assumes nothing.
 use mathlib.Core.Path.{_≡_, refl, sym, ap, _∙_, subst}
 use mathlib.Core.List.{List, [], _∷_, _++_}
@@ -19,15 +19,16 @@ use Rattle.machine.specs.Calls as C
 use Rattle.sound.specs.Relation.{all, flags}
 use Rattle.sound.specs.Edits.{snoc-tiles}
 use Rattle.sound.specs.Opened.{opened-ends}
-use Rattle.history.specs.Histories.{Event, Settle, Block, State, state, heapAt, arenaIn, recordIn, blocksIn, settled, run, answers, begin}
+use Rattle.history.specs.Histories.{Event, Block, State, state, heapAt, arenaIn, recordIn, blocksIn, kept, run, answers, begin}
 use Rattle.calls_consequences.specs.Results.{Lent}
 use Rattle.calls_consequences.specs.Written.{written-read}
+use Rattle.history.specs.Demand3.{Quiet}
 use Rattle.history.specs.Ready.{Ready, ReadyAt}
 use Rattle.history.specs.Called.{open-lent}
 use Rattle.history.specs.Runs.{begin-ready, run-ready}
 use Rattle.history.specs.Lengths.{run-length, begin-length}
 use Rattle.history.specs.Mending.{last-of, adjacent, start-at}
-use Rattle.history.specs.Settles.{Calm, CalmAt, settle-calm, no-stack, run-settle}
+use Rattle.history.specs.Calm.{Calm, CalmAt, no-stack, thenJoined, run-calm}
 use Rattle.history.specs.Alike.{Alike, run-alike, answers-alike, Equal, Any, equal-steady, any-always}
 
 -- ---- an emptied heap is the opened one
@@ -90,11 +91,11 @@ unfolding begin
 begin-opened a r L =
     let n : ℕ = length a in
     let o = opened-ends n (arenaWords a) (L .even) (L .least) (L .most) (omega (arith, length-arenaWords a, L .even)) in
-    ap (λ (x : C.After). heapAt (settled [] x)) (open-lent a r L) ∙ written-read (opened n) (o .0) (apply (size 0 n 1 ∷ []) (arenaWords a)) (o .1) (omega arith)
+    ap (λ (x : C.After). heapAt (kept [] x)) (open-lent a r L) ∙ written-read (opened n) (o .0) (apply (size 0 n 1 ∷ []) (arenaWords a)) (o .1) (omega arith)
 
 begin-blocks : (a r : List ℕ) → Lent a r → blocksIn (begin a r) ≡ []
 unfolding begin
-begin-blocks a r L = ap (λ (x : C.After). blocksIn (settled [] x)) (open-lent a r L)
+begin-blocks a r L = ap (λ (x : C.After). blocksIn (kept [] x)) (open-lent a r L)
 
 -- ---- the record's bytes are those of the heap that is read
 pub record-bytes : (s : State) → ReadyAt s → recordIn s ≡ bytes 4 (recordOf (heapAt s))
@@ -106,32 +107,29 @@ alike-heaps (state a r bs) (state a′ r′ bs′) k = k .0
 pub alike-of : (s t : State) → heapAt s ≡ heapAt t → blocksIn s ≡ blocksIn t → Alike Equal s t
 alike-of (state a r bs) (state a′ r′ bs′) e f = (e, f)
 
--- ---- the theorem: a settled state that holds no block, against any newly opened arena of that length
-module _ (a r : List ℕ) (L : Lent a r) (es : List Event) (none : blocksIn (run (es ++ Settle ∷ []) (begin a r)) ≡ [])
+-- ---- the theorem: a state that holds no block after an emptying and its joining, against any newly opened arena of that length
+module _ (a r : List ℕ) (L : Lent a r) (es fs : List Event) (q : Quiet fs) (none : blocksIn (run (thenJoined es fs) (begin a r)) ≡ [])
     (a′ r′ : List ℕ) (L′ : Lent a′ r′) (same : length a′ ≡ length a) where
-  ready : ReadyAt (run (es ++ Settle ∷ []) (begin a r))
-  ready = run-ready (es ++ Settle ∷ []) (begin a r) (begin-ready a r L)
+  abbrev s : State
+  s = run (thenJoined es fs) (begin a r)
 
-  calm : CalmAt (run (es ++ Settle ∷ []) (begin a r))
-  calm = subst CalmAt (sym (run-settle es (begin a r))) (settle-calm (run es (begin a r)) (run-ready es (begin a r) (begin-ready a r L)))
+  abbrev t : State
+  t = begin a′ r′
 
-  emptied-alike : Alike Equal (run (es ++ Settle ∷ []) (begin a r)) (begin a′ r′)
+  ready : ReadyAt s
+  ready = run-ready (thenJoined es fs) (begin a r) (begin-ready a r L)
+
+  emptied-alike : Alike Equal s t
   emptied-alike =
-      let n : length (arenaIn (run (es ++ Settle ∷ []) (begin a r))) ≡ length a′ =
-      run-length (es ++ Settle ∷ []) (begin a r) (begin-ready a r L) ∙ begin-length a r L ∙ sym same in
-      alike-of (run (es ++ Settle ∷ []) (begin a r)) (begin a′ r′)
-      (calm-opened (run (es ++ Settle ∷ []) (begin a r)) ready calm none ∙ ap opened n ∙ sym (begin-opened a′ r′ L′))
-      (none ∙ sym (begin-blocks a′ r′ L′))
+      let n : length (arenaIn s) ≡ length a′ = run-length (thenJoined es fs) (begin a r) (begin-ready a r L) ∙ begin-length a r L ∙ sym same in
+      alike-of s t (calm-opened s ready (run-calm a r L es fs q) none ∙ ap opened n ∙ sym (begin-opened a′ r′ L′)) (none ∙ sym (begin-blocks a′ r′ L′))
 
-  pub emptied-answers : (fs : List Event) → answers fs (run (es ++ Settle ∷ []) (begin a r)) ≡ answers fs (begin a′ r′)
-  emptied-answers fs = answers-alike Equal Any equal-steady fs (run (es ++ Settle ∷ []) (begin a r)) (begin a′ r′)
-      (any-always fs (run (es ++ Settle ∷ []) (begin a r)) (begin a′ r′)) emptied-alike ready (begin-ready a′ r′ L′)
+  pub emptied-answers : (gs : List Event) → answers gs (run (thenJoined es fs) (begin a r)) ≡ answers gs (begin a′ r′)
+  emptied-answers gs = answers-alike Equal Any equal-steady gs s t (any-always gs s t) emptied-alike ready (begin-ready a′ r′ L′)
 
-  pub emptied-records : (fs : List Event) → recordIn (run fs (run (es ++ Settle ∷ []) (begin a r))) ≡ recordIn (run fs (begin a′ r′))
-  emptied-records fs =
-      let s : State = run (es ++ Settle ∷ []) (begin a r) in
-      let t : State = begin a′ r′ in
-      record-bytes (run fs s) (run-ready fs s ready)
+  pub emptied-records : (gs : List Event) → recordIn (run gs (run (thenJoined es fs) (begin a r))) ≡ recordIn (run gs (begin a′ r′))
+  emptied-records gs =
+      record-bytes (run gs s) (run-ready gs s ready)
       ∙ ap (λ (h : Heap). bytes 4 (recordOf h))
-      (alike-heaps (run fs s) (run fs t) (run-alike Equal Any equal-steady fs s t (any-always fs s t) emptied-alike ready (begin-ready a′ r′ L′)))
-      ∙ sym (record-bytes (run fs t) (run-ready fs t (begin-ready a′ r′ L′)))
+      (alike-heaps (run gs s) (run gs t) (run-alike Equal Any equal-steady gs s t (any-always gs s t) emptied-alike ready (begin-ready a′ r′ L′)))
+      ∙ sym (record-bytes (run gs t) (run-ready gs t (begin-ready a′ r′ L′)))

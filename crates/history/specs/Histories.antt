@@ -7,7 +7,7 @@ use lib.Dec.{eqb, ltb, leb}
 use lib.ListN.{set}
 use Rattle.machine.specs.Lists.{both, either}
 use Rattle.machine.specs.Heap.{Heap}
-use Rattle.machine.specs.Calls.{After, after, answerNumbers, heapIn, openCall, grantCall, releaseCall, resizeCall, settleCall}
+use Rattle.machine.specs.Calls.{After, after, answerNumbers, heapIn, openCall, grantCall, releaseCall, resizeCall, emptyingCall, joiningCall}
 use Rattle.machine.specs.declared.{Answer.Answer, HeapAnswer.HeapAnswer}
 use Rattle.machine.specs.declared.Answer.the-variants.{Done, Granted, Refused}
 
@@ -16,7 +16,8 @@ pub data Event : Type 0 where
   Grant : ℕ → Event
   Release : ℕ → Event
   Resize : ℕ → ℕ → Event
-  Settle : Event
+  Emptying : Event
+  Joining : Event
   Store : ℕ → ℕ → Event
 
 -- a block that was granted and not yet released: its mem and its usable bytes
@@ -70,15 +71,17 @@ resized m bs (after a r Done) = state a r (drop m bs)
 resized m bs (after a r (Granted k u)) = state a r (record { mem = k; usable = u } ∷ drop m bs)
 resized m bs (after a r (Refused x)) = state a r bs
 
-abbrev pub settled : List Block → After → State
-settled bs (after a r x) = state a r bs
+-- the blocks held are kept
+abbrev pub kept : List Block → After → State
+kept bs (after a r x) = state a r bs
 
 -- one event. A store outside the usable bytes of held blocks is no holder's, and does not happen
 unfoldable pub next : Event → State → State
 next (Grant n) (state a r bs) = granted bs (grantCall a r n)
 next (Release m) (state a r bs) = released m bs (releaseCall a r m)
 next (Resize m n) (state a r bs) = resized m bs (resizeCall a r m n)
-next Settle (state a r bs) = settled bs (settleCall a r)
+next Emptying (state a r bs) = kept bs (emptyingCall a r)
+next Joining (state a r bs) = kept bs (joiningCall a r)
 next (Store p v) (state a r bs) = elim (holds? bs p) [ true ↦ state (set a p (v % 256)) r bs | false ↦ state a r bs ]
 
 unfoldable pub run : List Event → State → State
@@ -93,7 +96,8 @@ abbrev pub answerTo : Event → State → List Answer
 answerTo (Grant n) (state a r bs) = answerOf (grantCall a r n) ∷ []
 answerTo (Release m) (state a r bs) = answerOf (releaseCall a r m) ∷ []
 answerTo (Resize m n) (state a r bs) = answerOf (resizeCall a r m n) ∷ []
-answerTo Settle (state a r bs) = answerOf (settleCall a r) ∷ []
+answerTo Emptying (state a r bs) = answerOf (emptyingCall a r) ∷ []
+answerTo Joining (state a r bs) = answerOf (joiningCall a r) ∷ []
 answerTo (Store p v) (state a r bs) = []
 
 unfoldable pub answers : List Event → State → List Answer
@@ -106,4 +110,4 @@ numbers es s = map answerNumbers (answers es s)
 
 -- a newly opened arena, over any bytes: no block is held
 unfoldable pub begin : List ℕ → List ℕ → State
-begin a r = settled [] (openCall a r)
+begin a r = kept [] (openCall a r)

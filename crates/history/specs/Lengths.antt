@@ -8,9 +8,9 @@ use lib.Dec.{eqb, leb}
 use lib.ListN.{length, set, length-set}
 use Rattle.sizes.specs.Sizes.{need}
 use Rattle.machine.specs.Lists.{both}
-use Rattle.machine.specs.Heap.{live?}
+use Rattle.machine.specs.Heap.{Heap, live?}
 use Rattle.machine.specs.Writes.{Ran, ran, size}
-use Rattle.machine.specs.Release.{release, settle}
+use Rattle.machine.specs.Release.{release, emptying, joining}
 use Rattle.machine.specs.Grant.{grant}
 use Rattle.machine.specs.Resize.{resize}
 use Rattle.machine.specs.Calls as C
@@ -18,11 +18,11 @@ use Rattle.machine.specs.declared.{Got.Got, Got.the-variants.At, Got.the-varian
 use Rattle.machine.specs.declared.Answer.the-variants.{Done}
 use Rattle.machine.specs.declared.Refusal.the-variants as N
 use Rattle.sound.specs.Tiles.{lt-or-le}
-use Rattle.history.specs.Histories.{Event, Grant, Release, Resize, Settle, Store, Block, holds?, State, state, arenaIn, granted, released, resized, settled, next, run, begin}
+use Rattle.history.specs.Histories.{Event, Grant, Release, Resize, Emptying, Joining, Store, Block, holds?, State, state, arenaIn, granted, released, resized, kept, next, run, begin}
 use Rattle.calls_consequences.specs.Results.{Lent}
 use Rattle.calls_consequences.specs.Left.{left-length}
 use Rattle.history.specs.Ready.{Ready, ReadyAt}
-use Rattle.history.specs.Called.{open-lent, grant-large, grant-called, release-called, settle-called, Way, Null, Zero, Large, Dead, Through, way, resizeBy, resize-called}
+use Rattle.history.specs.Called.{open-lent, grant-large, grant-called, release-called, job-called, Way, Null, Zero, Large, Dead, Through, way, resizeBy, resize-called}
 use Rattle.history.specs.Runs.{resized-null, resized-zero, next-ready}
 
 module _ (a r : List ℕ) (bs : List Block) (R : Ready a r bs) where
@@ -67,8 +67,11 @@ module _ (a r : List ℕ) (bs : List Block) (R : Ready a r bs) where
       go (Dead z k l v) = refl
       go (Through z k l v) = resized-length m (resize (m - 16) (need n) (C.heapIn a r))
 
-  settled-length : {A : Type 0} (x : Ran A) → length (arenaIn (settled bs (C.done a x))) ≡ length a
-  settled-length (ran g ws y) = left-length a r (R .lent) ws
+  kept-length : {A : Type 0} (x : Ran A) → length (arenaIn (kept bs (C.done a x))) ≡ length a
+  kept-length (ran g ws y) = left-length a r (R .lent) ws
+
+  job-length : (f : Heap → Ran (Unit {0})) → length (arenaIn (kept bs (C.jobCall f a r))) ≡ length a
+  job-length f = ap (λ (x : C.After). length (arenaIn (kept bs x))) (job-called a r (R .lent) (R .sound) f) ∙ kept-length (f (C.heapIn a r))
 
   store-length : (p v : ℕ) (t : Bool) → length (arenaIn (elim t [ true ↦ state (set a p (v % 256)) r bs | false ↦ state a r bs ])) ≡ length a
   store-length p v true = length-set a p (v % 256)
@@ -79,8 +82,8 @@ unfolding next
 next-length (Grant n) (state a r bs) R = grant-length a r bs R n
 next-length (Release m) (state a r bs) R = release-length a r bs R m
 next-length (Resize m n) (state a r bs) R = resize-length a r bs R m n
-next-length Settle (state a r bs) R =
-    ap (λ (x : C.After). length (arenaIn (settled bs x))) (settle-called a r (R .lent) (R .sound)) ∙ settled-length a r bs R (settle (C.heapIn a r))
+next-length Emptying (state a r bs) R = job-length a r bs R emptying
+next-length Joining (state a r bs) R = job-length a r bs R joining
 next-length (Store p v) (state a r bs) R = store-length a r bs R p v (holds? bs p)
 
 pub run-length : (es : List Event) (s : State) → ReadyAt s → length (arenaIn (run es s)) ≡ length (arenaIn s)
@@ -90,4 +93,4 @@ run-length (e ∷ es) s R = run-length es (next e s) (next-ready e s R) ∙ next
 
 pub begin-length : (a r : List ℕ) → Lent a r → length (arenaIn (begin a r)) ≡ length a
 unfolding begin
-begin-length a r L = ap (λ (x : C.After). length (arenaIn (settled [] x))) (open-lent a r L) ∙ left-length a r L (size 0 (length a) 1 ∷ [])
+begin-length a r L = ap (λ (x : C.After). length (arenaIn (kept [] x))) (open-lent a r L) ∙ left-length a r L (size 0 (length a) 1 ∷ [])

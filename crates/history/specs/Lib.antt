@@ -8,7 +8,7 @@ pub mod Runs
 pub mod Sure
 pub mod Stretches
 pub mod Mending
-pub mod Settles
+pub mod Calm
 pub mod Alike
 pub mod Lengths
 pub mod Emptied

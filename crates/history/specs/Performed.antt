@@ -5,10 +5,10 @@ use mathlib.Core.List.{List, [], _∷_}
 use mathlib.Core.Bool.{true, false}
 use Prim.Native.Nat.{ℕ}
 use lib.Dec.{eqb}
-use Rattle.machine.specs.Calls.{After, openCall, grantCall, releaseCall, resizeCall, settleCall}
+use Rattle.machine.specs.Calls.{After, openCall, grantCall, releaseCall, resizeCall, emptyingCall, joiningCall}
 use Rattle.machine.specs.declared.HeapAnswer.{HeapAnswer}
 use Rattle.heap.specs.Exported.{back, numbered}
-use Rattle.history.specs.Histories.{Event, Grant, Release, Resize, Settle, Store, Block, drop, State, state, next}
+use Rattle.history.specs.Histories.{Event, Grant, Release, Resize, Emptying, Joining, Store, Block, drop, State, state, next}
 use Rattle.history.specs.declared.Call.{Call}
 use Rattle.history.specs.declared.Call.the-variants as C
 
@@ -17,16 +17,18 @@ abbrev pub callOf : Call → List ℕ → List ℕ → After
 callOf (C.Grant n) a r = grantCall a r n
 callOf (C.Release m) a r = releaseCall a r m
 callOf (C.Resize m n) a r = resizeCall a r m n
-callOf C.Settle a r = settleCall a r
+callOf C.Emptying a r = emptyingCall a r
+callOf C.Joining a r = joiningCall a r
 
 abbrev pub eventOf : Call → Event
 eventOf (C.Grant n) = Grant n
 eventOf (C.Release m) = Release m
 eventOf (C.Resize m n) = Resize m n
-eventOf C.Settle = Settle
+eventOf C.Emptying = Emptying
+eventOf C.Joining = Joining
 
 -- ---- the blocks that a caller holds, by the numbers of its calls. With number 0: the block of a grant comes, that of a release goes; that of a resize goes,
--- and the one answered comes, unless its mem is 0, which is none. With any other number, and by a settle, nothing comes or goes
+-- and the one answered comes, unless its mem is 0, which is none. With any other number, and by an emptying or a joining, nothing comes or goes
 abbrev pub blockOf : HeapAnswer → Block
 blockOf x = record { mem = x .mem; usable = x .usable }
 
@@ -34,7 +36,8 @@ abbrev pub changed : Call → HeapAnswer → List Block → List Block
 changed (C.Grant n) x bs = blockOf x ∷ bs
 changed (C.Release m) x bs = drop m bs
 changed (C.Resize m n) x bs = elim (eqb (x .mem) 0) [ true ↦ drop m bs | false ↦ blockOf x ∷ drop m bs ]
-changed C.Settle x bs = bs
+changed C.Emptying x bs = bs
+changed C.Joining x bs = bs
 
 abbrev pub heldAfter : Call → HeapAnswer → List Block → List Block
 heldAfter c x bs = elim (eqb (x .no) 0) [ true ↦ changed c x bs | false ↦ bs ]

@@ -7,14 +7,14 @@ use Prim.Native.Nat.{ℕ, _+_}
 use native.Mathlib.Omega.{arith}
 use lib.Dec.{eqb}
 use borrow.Author.Tests.{ne-eqb}
-use Rattle.machine.specs.Calls.{After, after, answerNumbers, openCall, grantCall, releaseCall, resizeCall, settleCall}
+use Rattle.machine.specs.Calls.{After, after, answerNumbers, openCall, grantCall, releaseCall, resizeCall, emptyingCall, joiningCall}
 use Rattle.machine.specs.declared.HeapAnswer.{HeapAnswer}
 use Rattle.machine.specs.declared.Answer.{Answer}
 use Rattle.calls_consequences.specs.Results.{Lent, arenaLeft, recordLeft}
-use Rattle.calls_consequences.specs.Cases.{grant-cases, release-cases, resize-cases, settle-cases}
+use Rattle.calls_consequences.specs.Cases.{grant-cases, release-cases, resize-cases}
 use Rattle.heap.specs.Exported.{Back, back, numbered, numbersBack}
-use Rattle.history.specs.Histories.{Event, Grant, Release, Resize, Settle, Store, Block, drop, State, state, granted, released, resized, settled, next, run, answerOf, answerTo, answers, numbers, begin}
-use Rattle.history.specs.Performed.{callOf, eventOf, heldAfter, Began, began, Did, none, called, stored}
+use Rattle.history.specs.Histories.{Event, Grant, Release, Resize, Emptying, Joining, Store, Block, drop, State, state, granted, released, resized, kept, next, run, answerOf, answerTo, answers, numbers, begin}
+use Rattle.history.specs.Performed.{callOf, eventOf, changed, heldAfter, Began, began, Did, none, called, stored}
 use Rattle.history.specs.Demand3.{Zeros}
 use Rattle.history.specs.Ready.{Ready, ReadyAt}
 use Rattle.history.specs.Called.{open-lent}
@@ -26,7 +26,7 @@ use Rattle.history.specs.declared.Call.the-variants as C
 opened-state : Back → State
 opened-state (back b q x) = state b q []
 
-opened-is : (y : After) → opened-state (numbered y) ≡ settled [] y
+opened-is : (y : After) → opened-state (numbered y) ≡ kept [] y
 unfolding opened-state
 opened-is (after b q x) = refl
 
@@ -53,8 +53,13 @@ module _ (a r : List ℕ) (bs : List Block) (R : Ready a r bs) where
   release-holds m = release-cases a r (R .lent) (λ y. stateBack (C.Release m) bs (numbered y) ≡ released m bs y) m
       (λ U. refl) (λ S z. refl) (λ S z d. refl) (λ S v. refl)
 
-  settle-holds : stateBack C.Settle bs (numbered (settleCall a r)) ≡ settled bs (settleCall a r)
-  settle-holds = settle-cases a r (R .lent) (λ y. stateBack C.Settle bs (numbered y) ≡ settled bs y) (λ U. refl) (λ S. refl)
+  -- a call that changes no block, whatever it answers
+  kept-holds : (c : Call) → ((x : HeapAnswer) → changed c x bs ≡ bs) → (y : After) → stateBack c bs (numbered y) ≡ kept bs y
+  kept-holds c e (after b q x) = ap (state b q) (go (eqb (answerNumbers x .no) 0))
+    where
+      go : (t : Bool) → _≡_ {A = List Block} (elim t [ true ↦ changed c (answerNumbers x) bs | false ↦ bs ]) bs
+      go true = e (answerNumbers x)
+      go false = refl
 
   -- no block has mem 0
   block-holds : (b q : List ℕ) (c u : ℕ) (cs : List Block)
@@ -76,7 +81,8 @@ module _ (a r : List ℕ) (bs : List Block) (R : Ready a r bs) where
   holds-next (C.Grant n) = grant-holds n
   holds-next (C.Release m) = release-holds m
   holds-next (C.Resize m n) = resize-holds m n
-  holds-next C.Settle = settle-holds
+  holds-next C.Emptying = kept-holds C.Emptying (λ x. refl) (emptyingCall a r)
+  holds-next C.Joining = kept-holds C.Joining (λ x. refl) (joiningCall a r)
 
   pub call-next : (c : Call) (b q : List ℕ) (x : HeapAnswer) → back b q x ≡ numbered (callOf c a r) → state b q (heldAfter c x bs) ≡ next (eventOf c) (state a r bs)
   call-next c b q x e = ap (stateBack c bs) e ∙ holds-next c
@@ -85,7 +91,8 @@ module _ (a r : List ℕ) (bs : List Block) (R : Ready a r bs) where
   answer-next (C.Grant n) = refl
   answer-next (C.Release m) = refl
   answer-next (C.Resize m n) = refl
-  answer-next C.Settle = refl
+  answer-next C.Emptying = refl
+  answer-next C.Joining = refl
 
 result-is : (y : After) → back (arenaLeft y) (recordLeft y) (answerNumbers (answerOf y)) ≡ numbered y
 result-is (after b q x) = refl
@@ -144,7 +151,8 @@ run-did [] s R = none-did s
 run-did (Grant n ∷ es) s R = let t : State = next (Grant n) s in call-did (C.Grant n) es s (run es t) R (run-did es t (next-ready (Grant n) s R))
 run-did (Release m ∷ es) s R = let t : State = next (Release m) s in call-did (C.Release m) es s (run es t) R (run-did es t (next-ready (Release m) s R))
 run-did (Resize m n ∷ es) s R = let t : State = next (Resize m n) s in call-did (C.Resize m n) es s (run es t) R (run-did es t (next-ready (Resize m n) s R))
-run-did (Settle ∷ es) s R = let t : State = next Settle s in call-did C.Settle es s (run es t) R (run-did es t (next-ready Settle s R))
+run-did (Emptying ∷ es) s R = let t : State = next Emptying s in call-did C.Emptying es s (run es t) R (run-did es t (next-ready Emptying s R))
+run-did (Joining ∷ es) s R = let t : State = next Joining s in call-did C.Joining es s (run es t) R (run-did es t (next-ready Joining s R))
 run-did (Store p v ∷ es) s R =
     let t : State = next (Store p v) s in
     subst (λ (l : List HeapAnswer). Did s (Store p v ∷ es) l (run es t)) (sym (numbers-stored p v s es)) (stored p v s (run-did es t (next-ready (Store p v) s R)))

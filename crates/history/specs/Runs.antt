@@ -18,7 +18,7 @@ use Rattle.machine.specs.Lists.{both, ind}
 use Rattle.machine.specs.Count.{ind-same, ind-other}
 use Rattle.machine.specs.Heap.{Heap, sizeOf, live?, opened, recordOf}
 use Rattle.machine.specs.Writes.{Write, Ran, ran, heapOf, size, apply}
-use Rattle.machine.specs.Release.{release, settle}
+use Rattle.machine.specs.Release.{release, emptying, joining}
 use Rattle.machine.specs.Grant.{grant}
 use Rattle.machine.specs.Resize.{resize}
 use Rattle.machine.specs.Calls as C
@@ -30,17 +30,18 @@ use Rattle.sound.specs.Tiles.{lt-or-le}
 use Rattle.sound.specs.Moves.{nil, one, any, Moved}
 use Rattle.sound.specs.Leaves.{Leaves, gave, Found}
 use Rattle.sound.specs.Release.{both-true, release-leaves}
-use Rattle.sound.specs.Settle.{Settled, settle-leaves}
 use Rattle.sound.specs.Grant.{grant-leaves}
 use Rattle.sound.specs.Resize.{nowAt, Resized, standing, resize-resized}
 use Rattle.sound.specs.Live.{live-loose}
+use Rattle.sound.specs.Ends.{Ends}
 use Rattle.sound.specs.Opened.{opened-ends}
-use Rattle.history.specs.Histories.{Event, Grant, Release, Resize, Settle, Store, Block, holds?, drop, State, state, granted, released, resized, settled, next, run, begin}
+use Rattle.history.specs.Histories.{Event, Grant, Release, Resize, Emptying, Joining, Store, Block, holds?, drop, State, state, granted, released, resized, kept, next, run, begin}
 use Rattle.calls_consequences.specs.Results.{Lent}
 use Rattle.calls_consequences.specs.Cases.{release-cases}
+use Rattle.calls_consequences.specs.Consequences.{Job, emptying-job, joining-job}
 use Rattle.history.specs.Ready.{heldAt, Sized, Ready, ReadyAt, held-loose, held-once, sized-keep, ind-chunk, drop-count, drop-none, sized-drop, left-ready, ready-fine}
-use Rattle.calls_consequences.specs.Remainder.{Fine, grant-fine, release-fine, resize-fine, settle-fine}
-use Rattle.history.specs.Called.{open-lent, grant-large, grant-called, release-called, settle-called, Way, Null, Zero, Large, Dead, Through, way, resizeBy, resize-called}
+use Rattle.calls_consequences.specs.Remainder.{Fine, grant-fine, release-fine, resize-fine}
+use Rattle.history.specs.Called.{open-lent, grant-large, grant-called, release-called, job-called, Way, Null, Zero, Large, Dead, Through, way, resizeBy, resize-called}
 use Rattle.history.specs.Stores.{store-ready}
 
 -- ---- open
@@ -49,7 +50,7 @@ unfolding begin
 begin-ready a r L =
     let n : ℕ = length a in
     let o = opened-ends n (arenaWords a) (L .even) (L .least) (L .most) (omega (arith, length-arenaWords a, L .even)) in
-    subst (λ (x : C.After). ReadyAt (settled [] x)) (sym (open-lent a r L))
+    subst (λ (x : C.After). ReadyAt (kept [] x)) (sym (open-lent a r L))
     (left-ready a r L (opened n) (size 0 n 1 ∷ []) [] (record { good = o .0; low = omega arith }) (o .1)
     (record { low = λ m l. refl; count = λ c. omega (arith, o .0 .shape .own c); sizes = tt }))
 
@@ -193,13 +194,13 @@ module _ (a r : List ℕ) (bs : List Block) (R : Ready a r bs) where
           (standing (m - 16) (need n) h)
           (resize-resized h (arenaWords a) (m - 16) (need n) (R .sound .good) (R .sound .mem) lo (F .whole) (F .least))
 
-  settle-left : {A : Type 0} (x : Ran A) → Fine (heapOf x) → Leaves (C.heapIn a r) (arenaWords a) x (λ y g. Settled g) (any nil) nil → ReadyAt (settled bs (C.done a x))
-  settle-left (ran g ws y) F l = stay g ws y (any nil) (λ x. refl) F (l .mem) (l .moved)
+  job-left : {A : Type 0} (x : Ran A) → Ends x (arenaWords a) Fine → Moved (C.heapIn a r) x (any nil) nil → ReadyAt (kept bs (C.done a x))
+  job-left (ran g ws y) E M = stay g ws y (any nil) (λ x. refl) (E .now) (E .mem) M
 
-  settle-ready : ReadyAt (settled bs (C.settleCall a r))
-  settle-ready = subst (λ (x : C.After). ReadyAt (settled bs x)) (sym (settle-called a r (R .lent) (R .sound)))
-      (settle-left (settle (C.heapIn a r)) (settle-fine (C.heapIn a r) (arenaWords a) (ready-fine a r bs R) (R .sound .mem) .now)
-      (settle-leaves (C.heapIn a r) (arenaWords a) (R .sound .good) (R .sound .mem)))
+  job-ready : (f : Heap → Ran (Unit {0})) → Job f → ReadyAt (kept bs (C.jobCall f a r))
+  job-ready f J = subst (λ (x : C.After). ReadyAt (kept bs x)) (sym (job-called a r (R .lent) (R .sound) f))
+      (job-left (f (C.heapIn a r)) (J .ends (C.heapIn a r) (arenaWords a) (ready-fine a r bs R) (R .sound .mem))
+      (J .moved (C.heapIn a r) (arenaWords a) (R .sound .good) (R .sound .mem)))
 
   write-ready : (p v : ℕ) (t : Bool) → holds? bs p ≡ t → ReadyAt (elim t [ true ↦ state (set a p (v % 256)) r bs | false ↦ state a r bs ])
   write-ready p v true e = store-ready a r bs R p v e
@@ -211,7 +212,8 @@ unfolding next
 next-ready (Grant n) (state a r bs) R = grant-ready a r bs R n
 next-ready (Release m) (state a r bs) R = release-ready a r bs R m
 next-ready (Resize m n) (state a r bs) R = resize-ready a r bs R m n
-next-ready Settle (state a r bs) R = settle-ready a r bs R
+next-ready Emptying (state a r bs) R = job-ready a r bs R emptying emptying-job
+next-ready Joining (state a r bs) R = job-ready a r bs R joining joining-job
 next-ready (Store p v) (state a r bs) R = write-ready a r bs R p v (holds? bs p) refl
 
 pub run-ready : (es : List Event) (s : State) → ReadyAt s → ReadyAt (run es s)

@@ -1,5 +1,5 @@
--- In a run no call is refused for shape or soundness, an audit finds no fault, a settle is never refused, and a release exactly of what is not held: the live
--- blocks are those granted and not yet released. Read off what holds between events. Assumes nothing.
+-- In a run no call is refused for shape or soundness, an audit finds no fault, an emptying and a joining are never refused, and a release exactly of what is
+-- not held: the live blocks are those granted and not yet released. Read off what holds between events. Assumes nothing.
 use mathlib.Core.Path.{_≡_, refl, sym, ap, _∙_, subst}
 use mathlib.Core.List.{List, [], _∷_, _++_, map}
 use mathlib.Core.Bool.{Bool, true, false}
@@ -13,7 +13,7 @@ use Rattle.sizes.specs.Sizes.{need}
 use Rattle.machine.specs.Lists.{both, either, ind, cnt}
 use Rattle.machine.specs.Heap.{Heap, starts, live?, total}
 use Rattle.machine.specs.Writes.{Ran, ran}
-use Rattle.machine.specs.Release.{release, settle}
+use Rattle.machine.specs.Release.{release, emptying, joining}
 use Rattle.machine.specs.Grant.{grant}
 use Rattle.machine.specs.Resize.{resize}
 use Rattle.machine.specs.Audit.{auditOf}
@@ -24,13 +24,13 @@ use Rattle.machine.specs.declared.Refusal.the-variants as N
 use Rattle.sound.specs.Tiles.{lt-or-le, zero-or}
 use Rattle.sound.specs.Live.{loose-live}
 use Rattle.audit.specs.Exact.{audit-complete}
-use Rattle.history.specs.Histories.{Event, Grant, Release, Resize, Settle, Store, Block, State, state, answerOf, answerTo, answers, numbers, next, run, begin}
+use Rattle.history.specs.Histories.{Event, Grant, Release, Resize, Emptying, Joining, Store, Block, State, state, answerOf, answerTo, answers, numbers, next, run, begin}
 use Rattle.calls.specs.Ways.{audit-good}
 use Rattle.calls_consequences.specs.Results.{Lent}
 use Rattle.calls_consequences.specs.Left.{lent-shape}
 use Rattle.history.specs.Demand3.{held?, LiveAt, AuditsAt, Fair, AllFair}
 use Rattle.history.specs.Ready.{heldAt, Ready, ReadyAt}
-use Rattle.history.specs.Called.{grant-large, grant-called, release-called, settle-called, Way, Null, Zero, Large, Dead, Through, way, resizeBy, resize-called}
+use Rattle.history.specs.Called.{grant-large, grant-called, release-called, job-called, Way, Null, Zero, Large, Dead, Through, way, resizeBy, resize-called}
 use Rattle.history.specs.Runs.{begin-ready, next-ready, run-ready}
 
 -- ---- live is held
@@ -83,12 +83,25 @@ fair-got a (ran g ws Nothing) = record { shape = λ e. omega arith; sound = λ e
 pub done-answer : {A : Type 0} (a : List ℕ) (x : Ran A) → answerOf (C.done a x) ≡ Done
 done-answer a (ran g ws y) = refl
 
-pub settle-done : (s : State) → ReadyAt s → answerTo Settle s ≡ Done ∷ []
-settle-done (state a r bs) R = ap (λ (x : C.After). answerOf x ∷ []) (settle-called a r (R .lent) (R .sound)) ∙ ap (λ (x : Answer). x ∷ []) (done-answer a (settle (C.heapIn a r)))
+-- ---- the two jobs
+job-done : (f : Heap → Ran (Unit {0})) (a r : List ℕ) (bs : List Block) → Ready a r bs → answerOf (C.jobCall f a r) ∷ [] ≡ Done ∷ []
+job-done f a r bs R = ap (λ (x : C.After). answerOf x ∷ []) (job-called a r (R .lent) (R .sound) f) ∙ ap (λ (x : Answer). x ∷ []) (done-answer a (f (C.heapIn a r)))
 
-pub settle-numbers : (s : State) → ReadyAt s → numbers (Settle ∷ []) s ≡ record { no = 0; mem = 0; usable = 0 } ∷ []
+emptying-done : (s : State) → ReadyAt s → answerTo Emptying s ≡ Done ∷ []
+emptying-done (state a r bs) R = job-done emptying a r bs R
+
+joining-done : (s : State) → ReadyAt s → answerTo Joining s ≡ Done ∷ []
+joining-done (state a r bs) R = job-done joining a r bs R
+
+done-numbers : (e : Event) (s : State) → answerTo e s ≡ Done ∷ [] → numbers (e ∷ []) s ≡ record { no = 0; mem = 0; usable = 0 } ∷ []
 unfolding numbers answers
-settle-numbers s R = ap (λ (l : List Answer). map C.answerNumbers (l ++ [])) (settle-done s R)
+done-numbers e s p = ap (λ (l : List Answer). map C.answerNumbers (l ++ [])) p
+
+pub emptying-numbers : (s : State) → ReadyAt s → numbers (Emptying ∷ []) s ≡ record { no = 0; mem = 0; usable = 0 } ∷ []
+emptying-numbers s R = done-numbers Emptying s (emptying-done s R)
+
+pub joining-numbers : (s : State) → ReadyAt s → numbers (Joining ∷ []) s ≡ record { no = 0; mem = 0; usable = 0 } ∷ []
+joining-numbers s R = done-numbers Joining s (joining-done s R)
 
 -- a release answers by what is held
 abbrev pub releaseAnswer : List Block → ℕ → Answer
@@ -153,11 +166,15 @@ module _ (a r : List ℕ) (bs : List Block) (R : Ready a r bs) where
 abbrev AllFairOf : List Answer → Type 0
 AllFairOf xs = AllFair (map C.answerNumbers xs)
 
+done-fair : (e : Event) (s : State) → answerTo e s ≡ Done ∷ [] → AllFairOf (answerTo e s)
+done-fair e s p = subst AllFairOf (sym p) (record { shape = λ e. omega arith; sound = λ e. omega arith }, tt)
+
 next-fair : (e : Event) (s : State) → ReadyAt s → AllFairOf (answerTo e s)
 next-fair (Grant n) (state a r bs) R = (grant-fair a r bs R n, tt)
 next-fair (Release m) (state a r bs) R = (release-fair a r bs R m, tt)
 next-fair (Resize m n) (state a r bs) R = (resize-fair a r bs R m n, tt)
-next-fair Settle (state a r bs) R = subst AllFairOf (sym (settle-done (state a r bs) R)) (record { shape = λ e. omega arith; sound = λ e. omega arith }, tt)
+next-fair Emptying s R = done-fair Emptying s (emptying-done s R)
+next-fair Joining s R = done-fair Joining s (joining-done s R)
 next-fair (Store p v) (state a r bs) R = tt
 
 fair-append : (xs ys : List Answer) → AllFairOf xs → AllFairOf ys → AllFairOf (xs ++ ys)
@@ -169,7 +186,10 @@ unfolding answers
 answers-fair [] s R = tt
 answers-fair (e ∷ es) s R = fair-append (answerTo e s) (answers es (next e s)) (next-fair e s R) (answers-fair es (next e s) (next-ready e s R))
 
+pub ready-fair : (es : List Event) (s : State) → ReadyAt s → AllFair (numbers es s)
+unfolding numbers
+ready-fair es s R = answers-fair es s R
+
 -- ---- in every run
 pub run-fair : (a r : List ℕ) → Lent a r → (es : List Event) → AllFair (numbers es (begin a r))
-unfolding numbers
-run-fair a r L es = answers-fair es (begin a r) (begin-ready a r L)
+run-fair a r L es = ready-fair es (begin a r) (begin-ready a r L)

@@ -7,13 +7,13 @@ use lib.ListN.{length}
 use Rattle.machine.specs.Calls.{answerNumbers}
 use Rattle.machine.specs.declared.HeapAnswer.{HeapAnswer}
 use Rattle.calls_consequences.specs.Results.{Lent}
-use Rattle.history.specs.Histories.{Event, Settle, State, recordIn, blocksIn, run, answers, numbers, begin}
+use Rattle.history.specs.Histories.{Event, Emptying, Joining, State, recordIn, blocksIn, run, answers, numbers, begin}
 use Rattle.history.specs.Performed.{Began, Did}
-use Rattle.history.specs.Demand3.{AllFair, LiveAt, MendedAt, New, Demand}
+use Rattle.history.specs.Demand3.{AllFair, LiveAt, MendedAt, Quiet, New, Demand}
 use Rattle.history.specs.Ready.{ReadyAt}
 use Rattle.history.specs.Runs.{run-ready}
-use Rattle.history.specs.Sure.{ready-audits, run-fair, run-live, settle-numbers}
-use Rattle.history.specs.Settles.{run-append, run-mended}
+use Rattle.history.specs.Sure.{ready-audits, ready-fair, run-fair, run-live, emptying-numbers, joining-numbers}
+use Rattle.history.specs.Calm.{run-append, thenJoined, run-mended}
 use Rattle.history.specs.Emptied.{emptied-records, emptied-answers}
 use Rattle.history.specs.PerformedRuns.{began-is, began-zeros, began-ready, did-run, did-numbers}
 
@@ -22,54 +22,74 @@ head-of y [] = y
 head-of y (x ∷ xs) = x
 
 module _ (a r : List ℕ) (x : HeapAnswer) (s : State) (L : Lent a r) (B : Began a r x s) (es : List Event) (xs : List HeapAnswer) (t : State) (D : Did s es xs t)
-    (y : HeapAnswer) (u : State) (E : Did t (Settle ∷ []) (y ∷ []) u) where
+    (y : HeapAnswer) (u : State) (E : Did t (Emptying ∷ []) (y ∷ []) u) (fs : List Event) (Q : Quiet fs) (ys : List HeapAnswer) (v : State) (F : Did u fs ys v)
+    (z : HeapAnswer) (w : State) (J : Did v (Joining ∷ []) (z ∷ []) w) where
   ready : ReadyAt s
   ready = began-ready L B
 
   came : run es (begin a r) ≡ t
   came = ap (run es) (sym (began-is B)) ∙ did-run ready D
 
-  ready-then : ReadyAt t
-  ready-then = subst ReadyAt (did-run ready D) (run-ready es s ready)
+  did-ready : {s t : State} {es : List Event} {xs : List HeapAnswer} → ReadyAt s → Did s es xs t → ReadyAt t
+  did-ready {s} {es = es} R D = subst ReadyAt (did-run R D) (run-ready es s R)
 
-  settled : run (es ++ Settle ∷ []) (begin a r) ≡ u
-  settled = run-append es (Settle ∷ []) (begin a r) ∙ ap (run (Settle ∷ [])) came ∙ did-run ready-then E
+  ready-t : ReadyAt t
+  ready-t = did-ready ready D
 
-  ready-last : ReadyAt u
-  ready-last = subst ReadyAt (did-run ready-then E) (run-ready (Settle ∷ []) t ready-then)
+  ready-u : ReadyAt u
+  ready-u = did-ready ready-t E
 
-  empty : blocksIn u ≡ [] → blocksIn (run (es ++ Settle ∷ []) (begin a r)) ≡ []
-  empty e = ap blocksIn settled ∙ e
+  ready-v : ReadyAt v
+  ready-v = did-ready ready-u F
 
-  new : blocksIn u ≡ [] → New (length a) u
+  ready-w : ReadyAt w
+  ready-w = did-ready ready-v J
+
+  joined : run (thenJoined es fs) (begin a r) ≡ w
+  joined = run-append es (Emptying ∷ (fs ++ Joining ∷ [])) (begin a r)
+      ∙ ap (run (Emptying ∷ (fs ++ Joining ∷ []))) came
+      ∙ run-append (Emptying ∷ []) (fs ++ Joining ∷ []) t
+      ∙ ap (run (fs ++ Joining ∷ [])) (did-run ready-t E)
+      ∙ run-append fs (Joining ∷ []) u
+      ∙ ap (run (Joining ∷ [])) (did-run ready-u F)
+      ∙ did-run ready-v J
+
+  empty : blocksIn w ≡ [] → blocksIn (run (thenJoined es fs) (begin a r)) ≡ []
+  empty e = ap blocksIn joined ∙ e
+
+  new : blocksIn w ≡ [] → New (length a) w
   unfolding numbers
   new e = record {
-    told = λ b q z o M n O fs ys zs v w F G.
-        sym (did-numbers ready-last F)
-        ∙ ap (λ (k : State). map answerNumbers (answers fs k)) (sym settled)
-        ∙ ap (map answerNumbers) (emptied-answers a r L es (empty e) b q M n fs)
-        ∙ ap (numbers fs) (sym (began-is O))
-        ∙ did-numbers (began-ready M O) G;
-    recs = λ b q z o M n O fs ys zs v w F G.
-        ap recordIn (sym (did-run ready-last F))
-        ∙ ap (λ (k : State). recordIn (run fs k)) (sym settled)
-        ∙ emptied-records a r L es (empty e) b q M n fs
-        ∙ ap (λ (k : State). recordIn (run fs k)) (sym (began-is O))
-        ∙ ap recordIn (did-run (began-ready M O) G);
+    told = λ b q i o M n O gs xs ys t u G H.
+        sym (did-numbers ready-w G)
+        ∙ ap (λ (k : State). map answerNumbers (answers gs k)) (sym joined)
+        ∙ ap (map answerNumbers) (emptied-answers a r L es fs Q (empty e) b q M n gs)
+        ∙ ap (numbers gs) (sym (began-is O))
+        ∙ did-numbers (began-ready M O) H;
+    recs = λ b q i o M n O gs xs ys t u G H.
+        ap recordIn (sym (did-run ready-w G))
+        ∙ ap (λ (k : State). recordIn (run gs k)) (sym joined)
+        ∙ emptied-records a r L es fs Q (empty e) b q M n gs
+        ∙ ap (λ (k : State). recordIn (run gs k)) (sym (began-is O))
+        ∙ ap recordIn (did-run (began-ready M O) H);
   }
 
-  demand : Demand (length a) x xs t y u
+  demand : Demand (length a) x xs t y ys v z w
   demand = record {
     opens = began-zeros L B;
     fair = subst AllFair (ap (numbers es) (sym (began-is B)) ∙ did-numbers ready D) (run-fair a r L es);
-    audits = ready-audits t ready-then;
+    audits = ready-audits t ready-t;
     live = subst LiveAt came (run-live a r L es);
-    settles = ap (head-of y) (sym (did-numbers ready-then E) ∙ settle-numbers t ready-then);
-    mended = subst MendedAt settled (run-mended a r L es);
+    empties = ap (head-of y) (sym (did-numbers ready-t E) ∙ emptying-numbers t ready-t);
+    between = subst AllFair (did-numbers ready-u F) (ready-fair fs u ready-u);
+    halfway = ready-audits v ready-v;
+    joins = ap (head-of z) (sym (did-numbers ready-v J) ∙ joining-numbers v ready-v);
+    mended = subst MendedAt joined (run-mended a r L es fs Q);
     emptied = new;
   }
 
--- ---- the theorem: an open of lent bytes, any events performed, and then a settle
+-- ---- the theorem: an open of lent bytes, any events performed, and then an emptying and, with no grant, release or resize between, a joining
 pub demand3 : (a r : List ℕ) (x : HeapAnswer) (s : State) → Lent a r → Began a r x s → (es : List Event) (xs : List HeapAnswer) (t : State) → Did s es xs t
-    → (y : HeapAnswer) (u : State) → Did t (Settle ∷ []) (y ∷ []) u → Demand (length a) x xs t y u
-demand3 a r x s L B es xs t D y u E = demand a r x s L B es xs t D y u E
+    → (y : HeapAnswer) (u : State) → Did t (Emptying ∷ []) (y ∷ []) u → (fs : List Event) → Quiet fs → (ys : List HeapAnswer) (v : State) → Did u fs ys v
+    → (z : HeapAnswer) (w : State) → Did v (Joining ∷ []) (z ∷ []) w → Demand (length a) x xs t y ys v z w
+demand3 a r x s L B es xs t D y u E fs Q ys v F z w J = demand a r x s L B es xs t D y u E fs Q ys v F z w J

@@ -11,7 +11,8 @@ pub enum Call {
     Grant(u64),
     Release(u64),
     Resize(u64, u64),
-    Settle,
+    Emptying,
+    Joining,
 }
 
 pub fn perform(arena: &mut [u8], control: &mut [u8], c: Call) -> HeapAnswer
@@ -27,8 +28,11 @@ pub fn perform(arena: &mut [u8], control: &mut [u8], c: Call) -> HeapAnswer
         Call::Resize(m, n) => {
             return heap::heap_resize(arena, control, m, n);
         }
-        Call::Settle => {
-            return heap::heap_settle(arena, control);
+        Call::Emptying => {
+            return heap::heap_emptying(arena, control);
+        }
+        Call::Joining => {
+            return heap::heap_joining(arena, control);
         }
     }
 }

@@ -7,14 +7,14 @@ use Prim.Native.Nat.{ℕ}
 use lib.ListN.{length, getD, take, drop, replicate}
 use Rattle.le.specs.Number.{number, numberFrom, words, digits, bytes}
 use Rattle.le.specs.Arena.{arenaWords}
-use Rattle.sizes.specs.Limits.{none64}
+use Rattle.sizes.specs.Limits.{none32, none64}
 use Rattle.sizes.specs.Sizes.{need}
 use Rattle.machine.specs.Heap.{Heap, cache, fast, bin, sizeOf, pOf, recordOf}
 use Rattle.machine.specs.Writes.{apply}
 use Rattle.machine.specs.Grant.{grant}
 use Rattle.machine.specs.Audit.{auditOf}
 use Rattle.machine.specs.Calls.{After, after, answerNumbers, openCall, granted, grantCall, releaseCall, resizeCall}
-use Rattle.machine.proofs.Script.{Line, G, R, S, Z, script, outs, heapAfter, writesAfter, arenaAfter, same?}
+use Rattle.machine.proofs.Script.{Line, G, R, S, E, J, Z, script, outs, heapAfter, writesAfter, arenaAfter, same?}
 
 -- document 01's heaplog example behind its A 256, line by line: number, mem, usable and top
 example : List Line
@@ -291,6 +291,31 @@ rest-does-not : same? (heads (heapAfter (script 131072 (rest-released 65624))) (
     (112 ∷ 1 ∷ 65520 ∷ 1 ∷ 1 ∷ 224 ∷ 1 ∷ 368 ∷ []) ≡ true
 unfolding script rest-released seven-cached heads fast-and-unsorted
 rest-does-not = refl
+
+-- ---- document 02, (vii): emptying and joining, each alone. The nine chunks of 32 are cut from a binned one: seven are cached, the eighth is on fast list 0, and
+-- the rest at 288 is the last remainder, in unsorted
+two-jobs : List Line
+two-jobs = G 1112 ∷ G 24 ∷ R 16 ∷ eight
+
+lists-and-remainder : Heap → List ℕ
+lists-and-remainder h = length (cache h 0) ∷ cache h 0 ++ fast-and-unsorted h ++ h .remainder ∷ []
+
+-- an emptying leaves the fast chunk on its list, those of the cache before it, and the last remainder
+emptying-alone : same? (lists-and-remainder (heapAfter (script 2048 (two-jobs ++ E ∷ []))))
+    (0 ∷ 8 ∷ 0 ∷ 32 ∷ 64 ∷ 96 ∷ 128 ∷ 160 ∷ 192 ∷ 224 ∷ 1 ∷ 288 ∷ 288 ∷ []) ≡ true
+unfolding script two-jobs eight lists-and-remainder fast-and-unsorted
+emptying-alone = refl
+
+-- a joining leaves the cached chunks, puts the fast one in unsorted and clears the last remainder
+joining-alone : same? (lists-and-remainder (heapAfter (script 2048 (two-jobs ++ J ∷ []))))
+    (7 ∷ 192 ∷ 160 ∷ 128 ∷ 96 ∷ 64 ∷ 32 ∷ 0 ∷ 0 ∷ 2 ∷ 224 ∷ 288 ∷ none32 ∷ []) ≡ true
+unfolding script two-jobs eight lists-and-remainder fast-and-unsorted
+joining-alone = refl
+
+-- both in that order join all eight
+both-jobs : same? (lists-and-remainder (heapAfter (script 2048 (two-jobs ++ E ∷ J ∷ [])))) (0 ∷ 0 ∷ 2 ∷ 0 ∷ 288 ∷ none32 ∷ []) ≡ true
+unfolding script two-jobs eight lists-and-remainder fast-and-unsorted
+both-jobs = refl
 
 -- on a newly opened arena of 32 bytes, which has no live block, a resize above 262,144 is refused with 2 and not with 4
 numberOf : After → ℕ

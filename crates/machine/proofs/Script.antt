@@ -1,4 +1,4 @@
--- Scripts of heaplog run on the machine's heap: the steps alone, without the bytes. Definitions only.
+-- Scripts of heaplog run on the machine's heap: the steps alone, without the bytes; an emptying and a joining also each alone, E and J. Definitions only.
 use mathlib.Core.List.{List, [], _∷_, _++_}
 use mathlib.Core.Bool.{Bool, true, false}
 use Prim.Native.Nat.{ℕ, _+_, _-_}
@@ -6,8 +6,8 @@ use lib.Dec.{eqb, leb}
 use Rattle.sizes.specs.Sizes.{need, usable, cacheOf, fastOf, binOf, largeBin}
 use Rattle.machine.specs.Lists.{both}
 use Rattle.machine.specs.Heap.{Heap, opened, topOf, sizeOf, live?, recordOf}
-use Rattle.machine.specs.Writes.{Write, Ran, ran}
-use Rattle.machine.specs.Release.{absorb, joinNext, putDown, join, releasePast, release, drain, drains, consolidate, emptying, joining, settle}
+use Rattle.machine.specs.Writes.{Write, Ran, ran, _>>=_}
+use Rattle.machine.specs.Release.{absorb, joinNext, putDown, join, releasePast, release, drain, drains, consolidate, emptying, joining}
 use Rattle.machine.specs.Grant.{step1, moveFast, step2, takeLast, moveLasts, step3, step4, split, sortIn, splitLone, keep, turnAt, turn, swept, sweep, step5, carve, step8, step6, step7, step9, pass, again, from4, seek, grant}
 use Rattle.machine.specs.Resize.{nextP, finish, resize}
 use Rattle.machine.specs.Calls.{After, after}
@@ -18,6 +18,8 @@ pub data Line : Type 0 where
   G : ℕ → Line
   R : ℕ → Line
   S : Line
+  E : Line
+  J : Line
   Z : ℕ → ℕ → Line
 
 -- ---- on the heap: number, mem, usable and top for each line, the heap and all writes at the end
@@ -37,7 +39,9 @@ onDone (ran h ws x) f = logged (0 ∷ 0 ∷ 0 ∷ topOf h ∷ []) ws (f h)
 abbrev pub step : Line → Heap → (Heap → Log) → Log
 step (G n) h f = onGot (grant (need n) h) f
 step (R m) h f = elim (both (leb 16 m) (live? h (m - 16))) [ true ↦ onDone (release (m - 16) h) f | false ↦ logged (4 ∷ 0 ∷ 0 ∷ topOf h ∷ []) [] (f h) ]
-step S h f = onDone (settle h) f
+step S h f = onDone (emptying h >>= joining) f
+step E h f = onDone (emptying h) f
+step J h f = onDone (joining h) f
 step (Z m n) h f = elim (eqb m 0) [
   | true ↦ onGot (grant (need n) h) f
   | false ↦ elim (both (leb 16 m) (live? h (m - 16))) [
@@ -51,7 +55,7 @@ runHeap [] h = log [] h []
 runHeap (l ∷ ls) h = step l h (λ g. runHeap ls g)
 
 unfoldable pub script : ℕ → List Line → Log
-unfolding need usable cacheOf fastOf binOf largeBin recordOf absorb joinNext putDown join releasePast release drain drains consolidate emptying joining settle step1 moveFast step2 takeLast moveLasts step3 step4 split sortIn splitLone keep turnAt turn swept sweep step5 carve step8 step6 step7 step9 pass again from4 seek grant nextP finish resize
+unfolding need usable cacheOf fastOf binOf largeBin recordOf absorb joinNext putDown join releasePast release drain drains consolidate emptying joining step1 moveFast step2 takeLast moveLasts step3 step4 split sortIn splitLone keep turnAt turn swept sweep step5 carve step8 step6 step7 step9 pass again from4 seek grant nextP finish resize
 script n ls = runHeap ls (opened n)
 
 abbrev pub outs : Log → List ℕ

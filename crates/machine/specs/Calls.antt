@@ -12,7 +12,7 @@ use Rattle.sizes.specs.Offsets.{memOf, chunkOf}
 use Rattle.machine.specs.Lists.{both}
 use Rattle.machine.specs.Heap.{Heap, opened, sizeOf, live?, recordOf}
 use Rattle.machine.specs.Writes.{Write, size, apply, Ran, ran}
-use Rattle.machine.specs.Release.{release, settle}
+use Rattle.machine.specs.Release.{release, emptying, joining}
 use Rattle.machine.specs.Grant.{grant}
 use Rattle.machine.specs.Resize.{resize}
 use Rattle.machine.specs.View.{view}
@@ -124,9 +124,21 @@ onLive a r m h x = elim (both (leb 16 m) (live? h (chunkOf m))) [ true ↦ x | f
 unfoldable pub releaseCall : List ℕ → List ℕ → ℕ → After
 releaseCall a r m = onSound a r (λ h. elim (eqb m 0) [ true ↦ after a r Done | false ↦ onLive a r m h (done a (release (chunkOf m) h)) ])
 
--- ---- settle: numbers 1, 3
-unfoldable pub settleCall : List ℕ → List ℕ → After
-settleCall a r = onSound a r (λ h. done a (settle h))
+-- ---- the two jobs, emptying and joining: numbers 1, 3
+unfoldable pub jobCall : (Heap → Ran (Unit {0})) → List ℕ → List ℕ → After
+jobCall f a r = onSound a r (λ h. done a (f h))
+
+abbrev pub emptyingCall : List ℕ → List ℕ → After
+emptyingCall a r = jobCall emptying a r
+
+abbrev pub joiningCall : List ℕ → List ℕ → After
+joiningCall a r = jobCall joining a r
+
+-- both, in that order; the first refusal is answered. So heaplog's S calls them
+abbrev pub joinedAfter : After → After
+joinedAfter (after a r Done) = joiningCall a r
+joinedAfter (after a r (Granted m u)) = after a r (Granted m u)
+joinedAfter (after a r (Refused x)) = after a r (Refused x)
 
 -- ---- resize: null is a grant; else a new length of 0 is a release; else numbers 1, 2, 3, 4; number 5 leaves what the steps did before it
 unfoldable pub resizeCall : List ℕ → List ℕ → ℕ → ℕ → After

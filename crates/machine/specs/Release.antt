@@ -1,4 +1,4 @@
--- Release, join, consolidate and settle, in document 01's words and order. Definitions only.
+-- Release, join, consolidate, and the two jobs emptying and joining (document 02, (vii)), in the documents' words and order. Definitions only.
 use mathlib.Core.List.{List, [], _∷_}
 use mathlib.Core.Bool.{true, false}
 use Prim.Native.Nat.{ℕ, zero, suc, _-_}
@@ -75,13 +75,10 @@ release c h = elim (both (leb (sizeOf h c) mostCached) (ltb (length (cache h (ca
   | false ↦ releasePast c h
 ]
 
--- settle's first part: cache lists 0 to 63, each from its head: release past the cache
+-- emptying: cache lists 0 to 63, each from its head: release past the cache, to fast lists or joined
 unfoldable pub emptying : Heap → Ran (Unit {0})
 emptying h = drains releasePast cacheLists 0 h
 
--- settle's second part: consolidate, then clear the last remainder
+-- joining: consolidate, clear the last remainder
 unfoldable pub joining : Heap → Ran (Unit {0})
 joining h = consolidate h >>= setRemainder none32
-
-unfoldable pub settle : Heap → Ran (Unit {0})
-settle h = emptying h >>= joining

@@ -29,7 +29,7 @@ pub enum Refusal {
     NoRoom,
 }
 
-// What open, grant, release and settle answer. A grant gives a mem offset and the usable bytes from there on.
+// What open, grant, release, resize, emptying and joining answer. A grant gives a mem offset and the usable bytes from there on.
 pub enum Answer {
     Done,
     Granted { mem: u32, usable: u32 },

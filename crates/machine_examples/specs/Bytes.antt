@@ -8,14 +8,14 @@ use Rattle.le.specs.Number.{number, numberFrom, words, digits, bytes}
 use Rattle.le.specs.Arena.{arenaWords}
 use Rattle.sizes.specs.Sizes.{need, usable, cacheOf, fastOf, binOf, largeBin}
 use Rattle.machine.specs.Heap.{recordOf}
-use Rattle.machine.specs.Release.{absorb, joinNext, putDown, join, releasePast, release, drain, drains, consolidate, emptying, joining, settle}
+use Rattle.machine.specs.Release.{absorb, joinNext, putDown, join, releasePast, release, drain, drains, consolidate, emptying, joining}
 use Rattle.machine.specs.Grant.{step1, moveFast, step2, takeLast, moveLasts, step3, step4, split, sortIn, splitLone, keep, turnAt, turn, swept, sweep, step5, carve, step8, step6, step7, step9, pass, again, from4, seek, grant}
 use Rattle.machine.specs.Resize.{nextP, finish, resize}
 use Rattle.machine.specs.View.{listAt, tilesOf, stacksOf, binsOf}
 use Rattle.machine.specs.Audit.{tileFault, goodFrom, listFault, flagFault, auditOf}
-use Rattle.machine.specs.Calls.{After, after, answerNumbers, auditCall, closedRecord, openCall, grantCall, releaseCall, settleCall, resizeCall}
+use Rattle.machine.specs.Calls.{After, after, answerNumbers, auditCall, closedRecord, openCall, grantCall, releaseCall, jobCall, emptyingCall, joiningCall, joinedAfter, resizeCall}
 use Rattle.machine.specs.declared.{Answer.Answer}
-use Rattle.machine.proofs.Script.{Line, G, R, S, Z, same?}
+use Rattle.machine.proofs.Script.{Line, G, R, S, E, J, Z, same?}
 
 -- ---- scripts: what each line prints behind its letter, and the bytes left
 pub data Printed : Type 0 where
@@ -24,7 +24,9 @@ pub data Printed : Type 0 where
 abbrev pub exampleCall : Line → List ℕ → List ℕ → After
 exampleCall (G n) a r = grantCall a r n
 exampleCall (R m) a r = releaseCall a r m
-exampleCall S a r = settleCall a r
+exampleCall S a r = joinedAfter (emptyingCall a r)
+exampleCall E a r = emptyingCall a r
+exampleCall J a r = joiningCall a r
 exampleCall (Z m n) a r = resizeCall a r m n
 
 abbrev pub line : Answer → List ℕ → List ℕ
@@ -42,7 +44,7 @@ runBytes (l ∷ ls) a r = goOn (exampleCall l a r) (λ b s. runBytes ls b s)
 
 -- opened on an arena of n bytes, all equal to x, and a record of bytes x
 unfoldable pub scriptBytes : ℕ → ℕ → List Line → Printed
-unfolding number numberFrom words digits bytes arenaWords need usable cacheOf fastOf binOf largeBin recordOf absorb joinNext putDown join releasePast release drain drains consolidate emptying joining settle step1 moveFast step2 takeLast moveLasts step3 step4 split sortIn splitLone keep turnAt turn swept sweep step5 carve step8 step6 step7 step9 pass again from4 seek grant nextP finish resize listAt tilesOf stacksOf binsOf tileFault goodFrom listFault flagFault auditOf auditCall closedRecord openCall grantCall releaseCall settleCall resizeCall
+unfolding number numberFrom words digits bytes arenaWords need usable cacheOf fastOf binOf largeBin recordOf absorb joinNext putDown join releasePast release drain drains consolidate emptying joining step1 moveFast step2 takeLast moveLasts step3 step4 split sortIn splitLone keep turnAt turn swept sweep step5 carve step8 step6 step7 step9 pass again from4 seek grant nextP finish resize listAt tilesOf stacksOf binsOf tileFault goodFrom listFault flagFault auditOf auditCall closedRecord openCall grantCall releaseCall jobCall resizeCall
 scriptBytes x n ls = goOn (openCall (replicate n x) (replicate 1572 x)) (λ b s. runBytes ls b s)
 
 abbrev pub outOf : Printed → List ℕ
@@ -74,10 +76,10 @@ heaplog-example : same? (outOf (scriptBytes 170 256 example))
 unfolding example scriptBytes
 heaplog-example = refl
 
--- after its settle no block is held: the record is that of a newly opened arena, byte for byte, though the arena's bytes are not
-settled-record : same? (recordOut (scriptBytes 170 256 (G 24 ∷ G 25 ∷ R 48 ∷ R 16 ∷ S ∷ []))) (recordOut (scriptBytes 7 256 [])) ≡ true
+-- after its emptying and joining no block is held: the record is that of a newly opened arena, byte for byte, though the arena's bytes are not
+emptied-record : same? (recordOut (scriptBytes 170 256 (G 24 ∷ G 25 ∷ R 48 ∷ R 16 ∷ S ∷ []))) (recordOut (scriptBytes 7 256 [])) ≡ true
 unfolding scriptBytes
-settled-record = refl
+emptied-record = refl
 
 -- arena 32 opens but grants nothing; null is released, the top's mem is not
 least-arena : same? (outOf (scriptBytes 255 32 (G 0 ∷ R 0 ∷ R 16 ∷ S ∷ [])))

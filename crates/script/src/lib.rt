@@ -7,7 +7,7 @@ pub use rules::ends_by;
 pub use rules::in_place;
 pub use rules::letter_of;
 
-// A line of a script: open, grant, release, resize, settle, or a line of another form.
+// A line of a script: open, grant, release, resize, settle (S: an emptying and a joining), or a line of another form.
 pub enum Line {
     Open(u32),
     Grant(u32),

@@ -10,8 +10,9 @@ use lib.ListN.{length, take, drop, getD, set, replicate, replicate-append-replic
 use lib.Seq.{take-suc, take-suc-set}
 use borrow.Author.Tests.{lt-ltb, le-ltb, leb-true, ne-eqb}
 use Rattle.machine.specs.Lists.{both}
-use Rattle.machine.specs.Calls.{After, after}
-use Rattle.machine.specs.declared.Answer.{Answer}
+use Rattle.machine.specs.Calls.{After, after, joiningCall, joinedAfter}
+use Rattle.machine.specs.declared.{Answer.Answer, Refusal.Refusal}
+use Rattle.machine.specs.declared.Answer.the-variants.{Done, Granted, Refused}
 use Rattle.script.specs.Rules.{inPlace?, letterOf, first?, endsBy?}
 use Rattle.script.specs.Grammar.{lineOf, keptBytes}
 use Rattle.script.specs.declared.Line.{Line}
@@ -27,6 +28,17 @@ alike p q s u = rw (p, q, s, u)
 
 pub begun : (m n : ℕ) {a r t o : List ℕ} → m ≡ 49152 → n ≡ 1572 → a ≡ replicate m 0 → r ≡ replicate n 0 → t ≡ [] → o ≡ header → step (run a r t 0 0 false) o ≡ step beforeAll header
 begun m n i j p q s u = alike (p ∙ ap (λ (k : ℕ). replicate k 0) i) (q ∙ ap (λ (k : ℕ). replicate k 0) j) s u
+
+-- ---- S: the emptying left b and q and answered x
+module _ (b q : List ℕ) (y : After) (x : Answer) (e : after b q x ≡ y) where
+  pub joined-done : x ≡ Done → {z : After} → z ≡ joiningCall b q → z ≡ joinedAfter y
+  joined-done d j = j ∙ ap (λ (x : Answer). joinedAfter (after b q x)) (sym d) ∙ ap joinedAfter e
+
+  pub joined-granted : (m u : ℕ) → x ≡ Granted m u → after b q (Granted m u) ≡ joinedAfter y
+  joined-granted m u d = ap (λ (x : Answer). joinedAfter (after b q x)) (sym d) ∙ ap joinedAfter e
+
+  pub joined-refused : (n : Refusal) → x ≡ Refused n → after b q (Refused n) ≡ joinedAfter y
+  joined-refused n d = ap (λ (x : Answer). joinedAfter (after b q x)) (sym d) ∙ ap joinedAfter e
 
 pub within : (a r : List ℕ) (n : ℕ) (l : Line) {b s : List ℕ} {x : Answer} → after b s x ≡ lineCall (take n a) r l → after (b ++ drop n a) s x ≡ called a r n l
 unfolding called

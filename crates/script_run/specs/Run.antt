@@ -6,7 +6,7 @@ use Prim.Native.Nat.{ℕ, _+_, _≤_}
 use lib.Dec.{eqb, ltb}
 use lib.ListN.{length, take, drop, replicate}
 use Rattle.le.specs.Number.{number}
-use Rattle.machine.specs.Calls.{After, after, openCall, grantCall, releaseCall, resizeCall, settleCall}
+use Rattle.machine.specs.Calls.{After, after, openCall, grantCall, releaseCall, resizeCall, emptyingCall, joinedAfter}
 use Rattle.machine.specs.declared.Answer.the-variants.{Done}
 use Rattle.script.specs.Grammar.{lineOf, kept, keptBytes}
 use Rattle.script.specs.Rules.{inPlace?, letterOf, endsBy?}
@@ -41,7 +41,7 @@ lineCall a r (Open n) = openCall a r
 lineCall a r (Grant n) = grantCall a r n
 lineCall a r (Release m) = releaseCall a r m
 lineCall a r (Resize m n) = resizeCall a r m n
-lineCall a r Settle = settleCall a r
+lineCall a r Settle = joinedAfter (emptyingCall a r)
 lineCall a r Other = after a r Done
 
 -- an open sets the arena's length

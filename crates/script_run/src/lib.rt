@@ -3,7 +3,7 @@ ghost use mathlib.Core.Path.{_≡_};
 ghost use Prim.Native.Nat.{_+_, _*_, _≤_};
 ghost use lib.ListN.{length, take, replicate};
 ghost use Rattle.script_format.specs.Format.{header};
-ghost use Rattle.machine.specs.Calls.{after};
+ghost use Rattle.machine.specs.Calls.{after, emptyingCall, joinedAfter};
 ghost use Rattle.script_run.specs.Run.{step, behind, beforeAll, lineCall, called, lengthOf, topAfter, counted, ranStep, lineStep, byteStep, pieceStep, endStep, runOf, Buffers, Within};
 use machine::Answer;
 use script::Line;
@@ -49,6 +49,24 @@ pub fn begin(arena: &mut [u8], control: &mut [u8], out: &mut [u8]) -> Log
     }
 }
 
+// The two calls of S, in their order: the first refusal is answered.
+fn empty_and_join(arena: &mut [u8], control: &mut [u8]) -> Answer
+    ensures { λ x. ⌜ after (now (arena .exit)) (now (control .exit)) x ≡ joinedAfter (emptyingCall (now (arena .entry)) (now (control .entry))) ⌝ }
+{
+    let x = calls::emptying(arena, control);
+    match x {
+        Answer::Done => {
+            return calls::joining(arena, control);
+        }
+        Answer::Granted { mem, usable } => {
+            return Answer::Granted { mem, usable };
+        }
+        Answer::Refused(refusal) => {
+            return Answer::Refused(refusal);
+        }
+    }
+}
+
 // The call of a line, on the arena that it opens or that was opened.
 fn call(arena: &mut [u8], control: &mut [u8], line: Line) -> Answer
     ensures { λ x. ⌜ after (now (arena .exit)) (now (control .exit)) x ≡ lineCall (now (arena .entry)) (now (control .entry)) line ⌝ }
@@ -67,7 +85,7 @@ fn call(arena: &mut [u8], control: &mut [u8], line: Line) -> Answer
             return calls::resize(arena, control, mem as u64, n as u64);
         }
         Line::Settle => {
-            return calls::settle(arena, control);
+            return empty_and_join(arena, control);
         }
         Line::Other => {
             return Answer::Done;

@@ -1,4 +1,4 @@
--- Every step keeps a sound heap and its words: one law for each step of release, settle, grant and resize, from any sound heap. What was shown of each step with
+-- Every step keeps a sound heap and its words: one law for each step of release, emptying, joining, grant and resize, from any sound heap. What was shown of each step with
 -- its answer and its loose chunks is read off here. Assumes nothing.
 use mathlib.Core.Path.{_≡_, refl}
 use mathlib.Core.List.{List, [], _∷_}
@@ -8,7 +8,7 @@ use lib.ListN.{length}
 use Rattle.machine.specs.Lists.{cnt}
 use Rattle.machine.specs.Heap.{Heap, stack, bin, sizeOf, opened, recordOf}
 use Rattle.machine.specs.Writes.{apply, Ran, heapOf, writes, size}
-use Rattle.machine.specs.Release.{releasePast, release, drain, drains, consolidate, emptying, joining, settle}
+use Rattle.machine.specs.Release.{releasePast, release, drain, drains, consolidate, emptying, joining}
 use Rattle.machine.specs.Grant.{step1, step2, step3, step4, turn, sweep, step5, step8, step6, step7, step9, pass, again, from4, seek, grant}
 use Rattle.machine.specs.Resize.{resize}
 use Rattle.sound.specs.Relation.{Mem, Loose, Good, Sound}
@@ -17,7 +17,8 @@ use Rattle.sound.specs.Moves.{nil, one, any}
 use Rattle.sound.specs.Leaves.{Leaves, leaves-ends, gave, Still, Cached, Found, still-here}
 use Rattle.sound.specs.Release.{releasePast-leaves, release-leaves}
 use Rattle.sound.specs.Drain.{drain-leaves, drains-leaves, consolidate-leaves}
-use Rattle.sound.specs.Settle.{emptying-leaves, joining-leaves, settle-leaves}
+use Rattle.sound.specs.Emptying.{emptying-leaves}
+use Rattle.sound.specs.Joining.{joining-leaves}
 use Rattle.sound.specs.Take.{step8-leaves}
 use Rattle.sound.specs.Small.{step1-leaves, step2-leaves, step3-leaves, step4-leaves}
 use Rattle.sound.specs.Sweep.{Turned, turn-leaves, sweep-leaves, step5-leaves}
@@ -44,7 +45,7 @@ releasePast-ends h w c g m lo = leaves-ends (releasePast-leaves h w c g m lo) (�
 pub release-ends : (h : Heap) (w : List ℕ) (c : ℕ) → Good h → Mem h w → Loose h c → Ends (release c h) w Good
 release-ends h w c g m lo = leaves-ends (release-leaves h w c g m lo) (λ a n p. p)
 
--- ---- settle
+-- ---- emptying and joining
 pub consolidate-ends : (h : Heap) (w : List ℕ) → Good h → Mem h w → Ends (consolidate h) w Good
 consolidate-ends h w g m = leaves-ends (consolidate-leaves h w g m) (λ a n p. p .good)
 
@@ -53,9 +54,6 @@ emptying-ends h w g m = leaves-ends (emptying-leaves h w g m) (λ a n p. p .good
 
 pub joining-ends : (h : Heap) (w : List ℕ) → Good h → Mem h w → Ends (joining h) w Good
 joining-ends h w g m = leaves-ends (joining-leaves h w g m) (λ a n p. p .good)
-
-pub settle-ends : (h : Heap) (w : List ℕ) → Good h → Mem h w → Ends (settle h) w Good
-settle-ends h w g m = leaves-ends (settle-leaves h w g m) (λ a n p. p .good)
 
 -- ---- grant
 found-good : (b : ℕ) (h : Heap) (x : Got) (g : Heap) → Found b h x g → Good g
@@ -136,8 +134,11 @@ module _ (h : Heap) (w r : List ℕ) (s : Sound h w r) where
   pub release-sound : (c : ℕ) → Loose h c → Sound (heapOf (release c h)) (apply (writes (release c h)) w) (recordOf (heapOf (release c h)))
   release-sound c lo = ends-sound (release-ends h w c (s .good) (s .mem) lo)
 
-  pub settle-sound : Sound (heapOf (settle h)) (apply (writes (settle h)) w) (recordOf (heapOf (settle h)))
-  settle-sound = ends-sound (settle-ends h w (s .good) (s .mem))
+  pub emptying-sound : Sound (heapOf (emptying h)) (apply (writes (emptying h)) w) (recordOf (heapOf (emptying h)))
+  emptying-sound = ends-sound (emptying-ends h w (s .good) (s .mem))
+
+  pub joining-sound : Sound (heapOf (joining h)) (apply (writes (joining h)) w) (recordOf (heapOf (joining h)))
+  joining-sound = ends-sound (joining-ends h w (s .good) (s .mem))
 
   pub grant-sound : (b : ℕ) → b % 16 ≡ 0 → 32 ≤ b → Sound (heapOf (grant b h)) (apply (writes (grant b h)) w) (recordOf (heapOf (grant b h)))
   grant-sound b b16 b32 = ends-sound (grant-ends b b16 b32 h w (s .good) (s .mem))

@@ -19,7 +19,8 @@ pub mod Copies
 pub mod JoinLeaves
 pub mod Drain
 pub mod Release
-pub mod Settle
+pub mod Emptying
+pub mod Joining
 pub mod Take
 pub mod Below
 pub mod Finish

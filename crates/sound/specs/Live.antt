@@ -1,4 +1,4 @@
--- Live blocks: what release, settle, grant and resize do to the loose chunks. Every other loose chunk stays loose, of its size, and none of its usable words
+-- Live blocks: what release, grant and resize do to the loose chunks. Every other loose chunk stays loose, of its size, and none of its usable words
 -- is written; release takes its chunk away, grant gives one that was not loose before, and resize does both or neither. Read off the counts of each step.
 -- Assumes nothing.
 use mathlib.Core.Path.{_≡_, refl, sym, ap, _∙_, subst}
@@ -14,7 +14,7 @@ use Rattle.machine.specs.Lists.{both, cnt}
 use Rattle.machine.specs.Count.{eq?, ind-same, ind-other}
 use Rattle.machine.specs.Heap.{Heap, starts, sizeOf, pOf, total, live?}
 use Rattle.machine.specs.Writes.{apply, Ran, heapOf, writes, ran}
-use Rattle.machine.specs.Release.{release, consolidate, settle}
+use Rattle.machine.specs.Release.{release, consolidate, emptying, joining}
 use Rattle.machine.specs.Grant.{grant}
 use Rattle.machine.specs.Resize.{resize}
 use Rattle.sound.specs.Relation.{Mem, Shape, Loose, Good}
@@ -25,7 +25,8 @@ use Rattle.sound.specs.Moves.{answerOf, nil, one, any, Moved, moved-keep
 use Rattle.sound.specs.Leaves.{Leaves, gave, Still, Cached, Found}
 use Rattle.sound.specs.Release.{both-true, release-leaves}
 use Rattle.sound.specs.Drain.{Consolidated, consolidate-leaves}
-use Rattle.sound.specs.Settle.{Settled, settle-leaves}
+use Rattle.sound.specs.Emptying.{Emptied, emptying-leaves}
+use Rattle.sound.specs.Joining.{Merged, joining-leaves}
 use Rattle.sound.specs.Grant.{grant-leaves}
 use Rattle.sound.specs.Below.{OwnP}
 use Rattle.sound.specs.Resize.{Resized, standing, resize-resized}
@@ -155,12 +156,9 @@ resized-resizes c b k h w (ran g ws Nothing) s lc R =
       only = λ x q lo. omega (arith, L .moved .count x);
     }
 
--- ---- release, settle, grant, resize
+-- ---- release, grant, resize
 pub release-goes : (h : Heap) (w : List ℕ) (c : ℕ) → Good h → Mem h w → Loose h c → Goes c h (release c h)
 release-goes h w c g m lo = moved-goes c h (release c h) (g .shape) (release-leaves h w c g m lo .moved)
-
-pub settle-stays : (h : Heap) (w : List ℕ) → Good h → Mem h w → Stays h (settle h)
-settle-stays h w g m = moved-stays h (settle h) (settle-leaves h w g m .moved)
 
 pub grant-gives : (b : ℕ) → b % 16 ≡ 0 → 32 ≤ b → (h : Heap) (w : List ℕ) → Good h → Mem h w → Gives b h (grant b h)
 grant-gives b b16 b32 h w g m = found-gives b h w (grant b h) (g .shape) (grant-leaves b b16 b32 h w g m)
@@ -186,5 +184,9 @@ resize-refused b b16 b32 h w g m c lo e =
 pub consolidate-empties : (h : Heap) (w : List ℕ) → Good h → Mem h w → Consolidated h (heapOf (consolidate h))
 consolidate-empties h w g m = consolidate-leaves h w g m .now
 
-pub settle-empties : (h : Heap) (w : List ℕ) → Good h → Mem h w → Settled (heapOf (settle h))
-settle-empties h w g m = settle-leaves h w g m .now
+-- ---- emptying leaves every cache list empty; joining every fast list, and no last remainder
+pub emptying-empties : (h : Heap) (w : List ℕ) → Good h → Mem h w → Emptied h (heapOf (emptying h))
+emptying-empties h w g m = emptying-leaves h w g m .now
+
+pub joining-merges : (h : Heap) (w : List ℕ) → Good h → Mem h w → Merged h (heapOf (joining h))
+joining-merges h w g m = joining-leaves h w g m .now

@@ -55,8 +55,8 @@ returns-3 c = let s = c .before .before .before .before .before .before .before 
 enum-told : tie.Need-enum-told
 enum-told c = search needs
 
-heap-settle-requires : tie.Need-heap-settle-requires
-heap-settle-requires c κs = search needs
+heap-emptying-requires : tie.Need-heap-emptying-requires
+heap-emptying-requires c κs = search needs
 
 same-length-7 : tie.Need-same-length-7
 same-length-7 c = search needs
@@ -65,7 +65,22 @@ same-length-8 : tie.Need-same-length-8
 same-length-8 c = search needs
 
 returns-4 : tie.Need-returns-4
-returns-4 c = let s = c .before .before .before .before .before .before .before .before .before .before .before in c .before .before .before .before .heap-settle .ensures ∙ ap (λ (x : Call). numbered (callOf x (s .args .arena .now) (s .args .control .now))) (sym (c .before .before .before .before .before .before .before .enum-told .given .1))
+returns-4 c = let s = c .before .before .before .before .before .before .before .before .before .before .before in c .before .before .before .before .heap-emptying .ensures ∙ ap (λ (x : Call). numbered (callOf x (s .args .arena .now) (s .args .control .now))) (sym (c .before .before .before .before .before .before .before .enum-told .given .1))
+
+enum-told-2 : tie.Need-enum-told-2
+enum-told-2 c = search needs
+
+heap-joining-requires : tie.Need-heap-joining-requires
+heap-joining-requires c κs = search needs
+
+same-length-9 : tie.Need-same-length-9
+same-length-9 c = search needs
+
+same-length-10 : tie.Need-same-length-10
+same-length-10 c = search needs
+
+returns-5 : tie.Need-returns-5
+returns-5 c = let s = c .before .before .before .before .before .before .before .before .before .before .before in c .before .before .before .before .heap-joining .ensures ∙ ap (λ (x : Call). numbered (callOf x (s .args .arena .now) (s .args .control .now))) (sym (c .before .before .before .before .before .before .before .enum-told2 .given .1))
 
 pub perform-spec : {M : Type 1} → statement M
 perform-spec =
@@ -87,7 +102,12 @@ perform-spec =
     same-length-6
     returns-3
     enum-told
-    heap-settle-requires
+    heap-emptying-requires
     same-length-7
     same-length-8
-    returns-4)
+    returns-4
+    enum-told-2
+    heap-joining-requires
+    same-length-9
+    same-length-10
+    returns-5)

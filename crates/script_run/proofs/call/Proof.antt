@@ -78,8 +78,8 @@ returns-4 c = rw (c .before .before .before .before .before .before .before .bef
 enum-told-2 : tie.Need-enum-told-2
 enum-told-2 c = search needs
 
-settle-requires : tie.Need-settle-requires
-settle-requires c κs = search needs
+empty-and-join-requires : tie.Need-empty-and-join-requires
+empty-and-join-requires c κs = search needs
 
 same-length-9 : tie.Need-same-length-9
 same-length-9 c = search needs
@@ -88,7 +88,7 @@ same-length-10 : tie.Need-same-length-10
 same-length-10 c = search needs
 
 returns-5 : tie.Need-returns-5
-returns-5 c = rw (c .before .before .before .before .before .before .before .enum-told2 .given .1) (c .before .before .before .before .settle .ensures)
+returns-5 c = rw (c .before .before .before .before .before .before .before .enum-told2 .given .1) (c .before .before .before .before .empty-and-join .ensures)
 
 enum-told-3 : tie.Need-enum-told-3
 enum-told-3 c = search needs
@@ -125,7 +125,7 @@ call-spec =
     same-length-8
     returns-4
     enum-told-2
-    settle-requires
+    empty-and-join-requires
     same-length-9
     same-length-10
     returns-5
