@@ -4,7 +4,7 @@ use mathlib.Core.Path.{_≡_, refl, sym, ap, _∙_, subst}
 use mathlib.Core.List.{List, [], _∷_}
 use mathlib.Core.Bool.{Bool, true, false}
 use mathlib.Core.Logic.{⊎-elim}
-use Prim.Native.Nat.{ℕ, _+_, _-_, _%_}
+use Prim.Native.Nat.{ℕ, _+_, _-_, _%_, _≤_}
 use native.Mathlib.Omega.{arith}
 use lib.Dec.{eqb, leb}
 use lib.ListN.{set}
@@ -46,9 +46,9 @@ said (ran h ws Nothing) = Refused N.NoRoom
 -- event and the two heaps before it. What M asks of a resize is what it asks of the grant or the release that it is, where the mem is null or the length 0
 pub record Steady (Q : Heap → Heap → Type 0) (M : Event → Heap → Heap → Type 0) : Type 0 where
   pub live : (h g : Heap) → Good h → Good g → Q h g → (c : ℕ) → live? h c ≡ live? g c
-  pub answer : (h g : Heap) → Good h → Good g → Q h g → (n : ℕ) → M (Grant n) h g → said (grant (need n) h) ≡ said (grant (need n) g)
-  pub grants : (h g : Heap) → Good h → Good g → Q h g → (n : ℕ) → M (Grant n) h g → Q (heapOf (grant (need n) h)) (heapOf (grant (need n) g))
-  pub releases : (h g : Heap) → Good h → Good g → Q h g → (m : ℕ) → M (Release m) h g → live? h (m - 16) ≡ true
+  pub answer : (h g : Heap) → Good h → Good g → Q h g → (n : ℕ) → n ≤ 262144 → M (Grant n) h g → said (grant (need n) h) ≡ said (grant (need n) g)
+  pub grants : (h g : Heap) → Good h → Good g → Q h g → (n : ℕ) → n ≤ 262144 → M (Grant n) h g → Q (heapOf (grant (need n) h)) (heapOf (grant (need n) g))
+  pub releases : (h g : Heap) → Good h → Good g → Q h g → (m : ℕ) → M (Release m) h g → both (leb 16 m) (live? h (m - 16)) ≡ true
       → Q (heapOf (release (m - 16) h)) (heapOf (release (m - 16) g))
   pub resized : (h g : Heap) → Good h → Good g → Q h g → (m n : ℕ) → M (Resize m n) h g → live? h (m - 16) ≡ true
       → said (resize (m - 16) (need n) h) ≡ said (resize (m - 16) (need n) g)
@@ -126,7 +126,7 @@ module _ (Q : Heap → Heap → Type 0) (M : Event → Heap → Heap → Type 0)
       (grant-alike Q a a′ bs (grant (need n) h) (grant (need n) h′)
       (grant-fine (need n) (F .whole) (F .least) (F .most l) h (arenaWords a) (ready-fine a r bs R) (R .sound .mem))
       (grant-fine (need n) (F .whole) (F .least) (F .most l) h′ (arenaWords a′) (ready-fine a′ r′ bs R′) (R′ .sound .mem))
-      (K .answer h h′ (R .sound .good) (R′ .sound .good) q n k) (K .grants h h′ (R .sound .good) (R′ .sound .good) q n k)))
+      (K .answer h h′ (R .sound .good) (R′ .sound .good) q n l k) (K .grants h h′ (R .sound .good) (R′ .sound .good) q n l k)))
       (lt-or-le 262144 n)
 
   job-both : (f : Heap → Ran (Unit {0})) → Job f → Q (heapOf (f h)) (heapOf (f h′)) → Both kept (C.jobCall f a r) (C.jobCall f a′ r′)
@@ -151,7 +151,7 @@ module _ (Q : Heap → Heap → Type 0) (M : Event → Heap → Heap → Type 0)
       release-alike Q a a′ m bs (release (m - 16) h) (release (m - 16) h′)
       (release-fine (m - 16) h (arenaWords a) (ready-fine a r bs R) (R .sound .mem) (live-loose h (m - 16) l))
       (release-fine (m - 16) h′ (arenaWords a′) (ready-fine a′ r′ bs R′) (R′ .sound .mem) (live-loose h′ (m - 16) l′))
-      (K .releases h h′ (R .sound .good) (R′ .sound .good) q m k l)
+      (K .releases h h′ (R .sound .good) (R′ .sound .good) q m k e)
   freed-both m k false e = (refl, (q, refl))
 
   null : ℕ → List ℕ → List ℕ → Heap → Bool → C.After
@@ -265,8 +265,8 @@ Any e h g = Unit {0}
 pub equal-steady : Steady Equal Any
 equal-steady = record {
   live = λ h g G G′ e c. ap (λ (k : Heap). live? k c) e;
-  answer = λ h g G G′ e n i. ap (λ (k : Heap). said (grant (need n) k)) e;
-  grants = λ h g G G′ e n i. ap (λ (k : Heap). heapOf (grant (need n) k)) e;
+  answer = λ h g G G′ e n l i. ap (λ (k : Heap). said (grant (need n) k)) e;
+  grants = λ h g G G′ e n l i. ap (λ (k : Heap). heapOf (grant (need n) k)) e;
   releases = λ h g G G′ e m i l. ap (λ (k : Heap). heapOf (release (m - 16) k)) e;
   resized = λ h g G G′ e m n i l. ap (λ (k : Heap). said (resize (m - 16) (need n) k)) e;
   resizes = λ h g G G′ e m n i l. ap (λ (k : Heap). heapOf (resize (m - 16) (need n) k)) e;

@@ -93,7 +93,7 @@ begin-opened a r L =
     let o = opened-ends n (arenaWords a) (L .even) (L .least) (L .most) (omega (arith, length-arenaWords a, L .even)) in
     ap (λ (x : C.After). heapAt (kept [] x)) (open-lent a r L) ∙ written-read (opened n) (o .0) (apply (size 0 n 1 ∷ []) (arenaWords a)) (o .1) (omega arith)
 
-begin-blocks : (a r : List ℕ) → Lent a r → blocksIn (begin a r) ≡ []
+pub begin-blocks : (a r : List ℕ) → Lent a r → blocksIn (begin a r) ≡ []
 unfolding begin
 begin-blocks a r L = ap (λ (x : C.After). blocksIn (kept [] x)) (open-lent a r L)
 

@@ -9,9 +9,13 @@ pub mod Sure
 pub mod Stretches
 pub mod Mending
 pub mod Calm
+pub mod Like
 pub mod Alike
 pub mod Lengths
 pub mod Emptied
 pub mod PerformedRuns
 pub mod Theorem
 pub mod Spared
+pub mod Bigger
+pub mod WrittenSame
+pub mod BiggerHolds
