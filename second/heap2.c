@@ -357,7 +357,9 @@ static bool release_past_cache(struct heap *h, uint32_t c)
         fast_push(h, fast_of(size), c);
         return false;
     }
-    if (join(h, c) < CONSOLIDATE_MIN || !some_fast(h))
+    uint32_t yielded = join(h, c);
+    YIELDED(yielded);
+    if (yielded < CONSOLIDATE_MIN || !some_fast(h))
         return false;
     REACHED(JOIN_CONSOLIDATES);
     consolidate(h);

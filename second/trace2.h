@@ -1,7 +1,7 @@
 /*
- * Which places of the steps were reached, for tests that must know it. Only
- * a build with SECOND_TRACE counts; without it the marks vanish and the
- * program is the one that is measured.
+ * Which places of the steps were reached, and the most that a release has
+ * yielded, for tests that must know it. Only a build with SECOND_TRACE counts;
+ * without it the marks vanish and the program is the one that is measured.
  */
 #ifndef TRACE2_H
 #define TRACE2_H
@@ -63,6 +63,7 @@ enum second_place { SECOND_PLACES(SECOND_PLACE_NAME) SECOND_PLACE_COUNT };
 
 struct second_trace {
     uint64_t reached[SECOND_PLACE_COUNT];
+    uint32_t most_yielded; /* by a release's join, since this was set to 0 */
 };
 
 /* Exists in a build with SECOND_TRACE only. */
@@ -70,8 +71,12 @@ extern struct second_trace second_trace;
 
 #ifdef SECOND_TRACE
 #define REACHED(place) (second_trace.reached[place]++)
+#define YIELDED(size)                                                         \
+    (second_trace.most_yielded < (size)                                       \
+         ? (void)(second_trace.most_yielded = (size)) : (void)0)
 #else
 #define REACHED(place) ((void)0)
+#define YIELDED(size) ((void)0)
 #endif
 
 #endif

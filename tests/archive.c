@@ -3,13 +3,14 @@
  * the same bytes; answer, every record byte and every arena byte must come out
  * the same, and so must the audits after it. What the documents say outright
  * (refusals that write nothing, the bytes that a resized block and all others
- * keep, demand 3, the figures marked 'run and compared') is checked on the
- * archive by itself as well.
+ * keep, demand 3, that a bigger arena changes nothing, the figures marked 'run
+ * and compared') is checked on the archive by itself as well.
  *
  * Seeds are fixed: a run is the same everywhere. The argument, a number, makes
  * it that many times as long, with further seeds. This file has the order of
- * the groups; figures.c, shapes.c, heaps.c and stack.c have the groups, pair.c
- * has one call on both programs, holders.c the holders of blocks and demand 3.
+ * the groups; figures.c, shapes.c, heaps.c, bigger.c and stack.c have the
+ * groups, pair.c has one call on both programs, holders.c the holders of blocks
+ * and demand 3.
  */
 #include "groups.h"
 #include "pair.h"
@@ -74,6 +75,9 @@ int main(int argc, char **argv)
     between_fast_chunks(4000 * times);
     among_fast_chunks(300 * times);
     equal_sizes(160 * times);
+    bigger_arenas(4000 * times);
+    yields_with_the_top(800 * times);
+    premises_needed();
     sound_heaps("random sound heaps up to 8,192", 8192, 8000 * times);
     sound_heaps("random sound heaps up to 262,144", 262144, 200 * times);
     flawed_heaps(2000 * times);

@@ -41,6 +41,11 @@ void flawed_heaps(uint32_t rounds);
 void overruns(uint32_t rounds);
 void guards(uint32_t rounds);
 
+/* bigger.c */
+void bigger_arenas(uint32_t rounds);
+void yields_with_the_top(uint32_t rounds);
+void premises_needed(void);
+
 /* stack.c */
 void stack_taken(uint32_t rounds);
 
