@@ -281,9 +281,6 @@ abbrev pub short? : ℕ → Ran Got → Bool
 short? b (ran h ws (At c)) = false
 short? b (ran h ws Nothing) = ltb (topSize h) (b + 32)
 
-pub record Short (b : ℕ) (h : Heap) : Type 0 where
-  pub short : short? b (upTo9 b h) ≡ true
-
 -- ---- grant is those steps, then step 9, then the consolidation that goes to 5
 more-nil : {A : Type 0} (x : Ran A) → more [] x ≡ x
 more-nil (ran h ws a) = refl
@@ -369,10 +366,7 @@ module _ (n b : ℕ) where
 pub upTo9-len : (b : ℕ) (h : Heap) → heapOf (upTo9 b h) .len ≡ h .len
 upTo9-len b h = ap (λ (g : Heap). g .len) (upTo9-like (h .len) b h .heap)
 
--- ---- "yields 65,536 or more": what a release answers is the size that its joining yields, 0 for a push
-abbrev pub Yields : ℕ → Heap → Type 0
-Yields c h = consolidateFrom ≤ answer (release c h)
-
+-- ---- "yields": what a release answers is the size that its joining yields, 0 for a push
 joined-says : (x : Ran ℕ) → answer (joined x) ≡ answer x
 joined-says (ran h ws s) = go (both (leb consolidateFrom s) (anyFast? h))
   where

@@ -1,1 +1,1 @@
-// Short histories on bytes, computed: no code, only theorems. Assumes nothing.
+// Short histories on bytes, and what differs between two heaps, computed: no code, only theorems. Assumes nothing.
