@@ -37,16 +37,17 @@
  * WHAT THE CALLER OWES
  *
  *   - arena and record point to arena_len and record_len bytes that may be
- *     read and written (by heap_audit: read), and neither pointer is null,
- *     not even with a length of 0;
- *   - the two buffers do not overlap;
- *   - during a call nobody else reads or writes either buffer: one call at a
+ *     read and written (by heap_audit and heap_write_image: read), file to
+ *     file_len bytes likewise (by heap_read_image: read), and no pointer is
+ *     null, not even with a length of 0;
+ *   - the buffers of a call do not overlap;
+ *   - during a call nobody else reads or writes its buffers: one call at a
  *     time on one arena, in one thread, and no interrupt handler that calls
  *     for the same arena or writes to one of its blocks. Calls on different
  *     pairs of buffers may run at the same time.
  *
- * Nothing else is asked. Any bytes in the two buffers, any lengths and any
- * numbers are answered, and every call returns.
+ * Nothing else is asked. Any bytes in the buffers, any lengths and any numbers
+ * are answered, and every call returns.
  *
  *
  * WHAT IS ANSWERED, AND WHAT IS LEFT IN THE BUFFERS
@@ -67,6 +68,13 @@
  *                               already, never granted, not a block's first
  *                               byte, or outside the arena
  *    5  grant, resize           there is no room for n bytes
+ *    6  read_image              the file has fewer than 5 bytes, or does not
+ *                               begin with the mark HPI
+ *    7  read_image              the file is of a version that is not known
+ *
+ * heap_read_image tests 6 and 7 before 1, and heap_write_image and
+ * heap_read_image answer 1 for the file too: its buffer, or the length that
+ * stands in it, is not the image's.
  *
  *   call             no      arena after it            record after it
  *   open             0       bytes 8 to 15 written     written anew
@@ -87,6 +95,12 @@
  *   joining          0       changed (below)           changed
  *   joining          1, 3    as it was                 as it was
  *   audit            any     as it was                 as it was
+ *   write_image      any     as it was                 as it was
+ *   read_image       0       the file's                the file's
+ *   read_image       6, 7, 1 as it was                 as it was
+ *
+ * The file that heap_read_image reads is as it was; that of heap_write_image is
+ * the image with 0, and as it was with 1.
  *
  * "As it was" holds for every single byte. A call that changes the arena
  * writes headers, links and free memory only: no usable byte of a block that
@@ -116,15 +130,27 @@
  * address, and used there. A copy of one without the other is of no use.
  *
  *
+ * THE IMAGE
+ *
+ * A heap in a file: the mark HPI (bytes 0 to 2), the version 1 (3 and 4), the
+ * arena's length (5 to 8), the record (1,572 bytes from 9 on), the arena (from
+ * 1,581 on), and nothing behind it. Numbers are little-endian. A heap that is
+ * not sound is written like any other, and read back byte for byte with the
+ * same audit: so a stuck logger's heap can be sent home and looked at there
+ * (./heapimage). A heap that is read in and sound answers every later call as
+ * the one that was written.
+ *
+ *
  * SOUND AND NOT SOUND
  *
- * Every call but open, if it is not refused with 1 or 2, first checks the whole
- * heap and refuses it, before the first write, if it is not sound; so a stray
- * write is found by the next such call and makes no further harm. A heap that
- * is not sound stays so until it is opened again. A heap that was opened, and
- * whose holders write in their usable bytes only, is always sound. There is one
- * limit: an overrun or stray write that happens to leave a sound heap cannot be
- * told from a sound heap.
+ * Every grant, release, resize, emptying and joining, if it is not refused with
+ * 1 or 2, first checks the whole heap and refuses it, before the first write,
+ * if it is not sound; so a stray write is found by the next such call and makes
+ * no further harm. A heap that is not sound stays so until it is opened again,
+ * or another is read in. A heap that was opened, and whose holders write in
+ * their usable bytes only, is always sound. There is one limit: an overrun or
+ * stray write that happens to leave a sound heap cannot be told from a sound
+ * heap.
  *
  *
  * COST
@@ -134,14 +160,15 @@
  * its usable bytes as well. A release that makes one free piece of 65,536 bytes
  * or more, the top included, also joins the chunks of the fast lists, as some
  * grants and every joining do; so does a resize, or an emptying, with what it
- * releases. Give a call of grant, release, resize, emptying, joining or audit
- * HEAP_STACK_BYTES of stack. The most that was measured is 23,681, by a resize,
- * and 21,985 by any other, over 600 random heaps and three where a release, a
- * resize and an emptying join the fast lists, of which 20,000 are marks, one
- * for each 16 bytes of an arena in four sizes of array, and 1,572 the record's
- * words, which a resize that is a grant or a release has twice. heap_open needs
- * no marks; the most measured is 632. No call is recursive, none takes memory
- * from elsewhere, and none calls back.
+ * releases. Give a call of grant, release, resize, emptying, joining, audit or
+ * read_image HEAP_STACK_BYTES of stack. The most that was measured is 23,681,
+ * by a resize, and 21,985 by any other, over 600 random heaps and three where
+ * a release, a resize and an emptying join the fast lists, of which 20,000 are
+ * marks, one for each 16 bytes of an arena in four sizes of array, and 1,572
+ * the record's words, which a resize that is a grant or a release has twice.
+ * heap_open and heap_write_image need no marks; the most measured is 632. An
+ * image is written or read in time in proportion to the arena's length. No call
+ * is recursive, none takes memory from elsewhere, and none calls back.
  *
  * libheap.a is x86-64 code by the System V calling convention.
  */
@@ -157,6 +184,9 @@ extern "C" {
 
 /* The record's size in bytes; no other is accepted. */
 #define HEAP_RECORD_BYTES 1572
+
+/* The size in bytes of the image of a heap whose arena has arena_len bytes. */
+#define HEAP_IMAGE_BYTES(arena_len) (9 + HEAP_RECORD_BYTES + (arena_len))
 
 /* The stack to give a call. */
 #define HEAP_STACK_BYTES 24576
@@ -179,7 +209,9 @@ enum heap_no {
     HEAP_TOO_LARGE = 2,
     HEAP_NOT_SOUND = 3,
     HEAP_NOT_LIVE = 4,
-    HEAP_NO_ROOM = 5
+    HEAP_NO_ROOM = 5,
+    HEAP_NO_IMAGE = 6,
+    HEAP_NO_VERSION = 7
 };
 
 struct heap_answer {
@@ -202,7 +234,7 @@ enum heap_kind {
 };
 
 struct heap_fault {
-    uint32_t no;     /* 0, or 1 (HEAP_BAD_SHAPE); then kind and number are 0 */
+    uint32_t no;     /* 0, or the refusal's number: kind and number are 0 */
     uint32_t kind;   /* HEAP_SOUND, or the kind of the first fault */
     uint32_t number; /* where it is: an offset in the arena, or a list */
 };
@@ -275,6 +307,26 @@ struct heap_answer heap_joining(uint8_t *arena, size_t arena_len,
  */
 struct heap_fault heap_audit(const uint8_t *arena, size_t arena_len,
                              const uint8_t *record, size_t record_len);
+
+/*
+ * Writes the heap's image, whether the heap is sound or not. Refused with 1, if
+ * arena or record has no allowed length, or file_len is not
+ * HEAP_IMAGE_BYTES(arena_len); then nothing is written.
+ */
+struct heap_answer heap_write_image(const uint8_t *arena, size_t arena_len,
+                                    const uint8_t *record, size_t record_len,
+                                    uint8_t *file, size_t file_len);
+
+/*
+ * Reads an image: arena and record are then those that were written, and the
+ * answer is what heap_audit says of them. Refused with 6, 7 or 1, in that
+ * order; then nothing is written. 1: file_len is under 9; the length in the
+ * file is no allowed arena length; file_len is not the image's of that length;
+ * arena_len is another length; record_len is not HEAP_RECORD_BYTES.
+ */
+struct heap_fault heap_read_image(const uint8_t *file, size_t file_len,
+                                  uint8_t *arena, size_t arena_len,
+                                  uint8_t *record, size_t record_len);
 
 #ifdef __cplusplus
 }

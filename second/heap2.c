@@ -825,12 +825,6 @@ static struct second_answer answer(enum refusal no)
     return (struct second_answer){ no, 0, 0 };
 }
 
-static bool arena_allowed(size_t arena_len)
-{
-    return arena_len >= ARENA_MIN && arena_len <= ARENA_MAX
-        && arena_len % 16 == 0;
-}
-
 /* Fills in the heap of good shape; shape is judged on the lengths alone. */
 static bool shaped(struct heap *h, uint8_t *arena, size_t arena_len,
                    uint8_t *record, size_t record_len)

@@ -2,15 +2,18 @@
  * Runs a heaplog script from standard input and prints, line for line, what
  * document 01's heaplog prints, with document 02's Z for a resize and its two
  * calls for an S. Input is fed byte by byte to a line of fixed size, so a
- * script, and a line, may be of any length.
+ * script, and a line, may be of any length. With -o FILE it writes the image
+ * of the heap that the run leaves, for request (iv).
  *
  * The exit status is 0 unless reading or writing itself fails.
  */
 #include <inttypes.h>
 #include <stdbool.h>
 #include <stdio.h>
+#include <string.h>
 
 #include "heap2.h"
+#include "image2.h"
 #include "layout2.h"
 
 #define MOST_DIGITS 7
@@ -160,7 +163,24 @@ static void run_script(struct run *run)
         run_line(run, &line);
 }
 
-int main(void)
+/* The image of the heap that the run left; no file if no arena was opened. */
+static bool save_image(const struct run *run, const char *path)
+{
+    static uint8_t file[IMAGE_ARENA + OPEN_MAX];
+    size_t length = IMAGE_ARENA + run->arena_len;
+
+    if (second_write_image(run->arena, run->arena_len, run->record,
+                           sizeof run->record, file, length).no != 0)
+        return true;
+    FILE *to = fopen(path, "wb");
+    if (to == NULL)
+        return false;
+    bool whole = fwrite(file, 1, length, to) == length;
+    return fclose(to) == 0 && whole;
+}
+
+/* -o FILE: writes the image too. */
+int main(int argc, char **argv)
 {
     static struct run run;
 
@@ -172,6 +192,10 @@ int main(void)
     }
     if (fflush(stdout) != 0 || ferror(stdout)) {
         fputs("heaplog2: standard output cannot be written\n", stderr);
+        return 1;
+    }
+    if (argc == 3 && strcmp(argv[1], "-o") == 0 && !save_image(&run, argv[2])) {
+        fprintf(stderr, "heaplog2: %s cannot be written\n", argv[2]);
         return 1;
     }
     return 0;

@@ -1,6 +1,6 @@
 /*
  * Where things lie: the fields of a chunk in the arena, the words of the
- * record. No other file of the second program knows.
+ * record, the parts of an image. No other file of the second program knows.
  *
  *      c -> +--------------------------------+
  *           | previous size                  |  meaningful if P is clear
@@ -18,6 +18,8 @@
 #ifndef LAYOUT2_H
 #define LAYOUT2_H
 
+#include <stdbool.h>
+#include <stddef.h>
 #include <stdint.h>
 #include <string.h>
 
@@ -48,6 +50,27 @@ enum word {
     BIN_LAST = 140
 };
 
+/*
+ * An image, a heap in a file:
+ *
+ *      0 -> +-----+---------+--------------+
+ *           | HPI | version | arena length |  3, 2 and 4 bytes
+ *      9 -> +-----+---------+--------------+
+ *           | record                       |
+ *  1,581 -> +------------------------------+
+ *           | arena                        |
+ *           +------------------------------+
+ */
+enum part {
+    IMAGE_MARK = 0,
+    IMAGE_VERSION = 3,
+    IMAGE_LENGTH = 5,
+    IMAGE_RECORD = 9,
+    IMAGE_ARENA = IMAGE_RECORD + RECORD_BYTES
+};
+
+#define IMAGE_MAX (IMAGE_ARENA + ARENA_MAX)
+
 #if defined(__BYTE_ORDER__) && __BYTE_ORDER__ == __ORDER_BIG_ENDIAN__
 #define LITTLE32(x) __builtin_bswap32(x)
 #define LITTLE64(x) __builtin_bswap64(x)
@@ -55,6 +78,11 @@ enum word {
 #define LITTLE32(x) (x)
 #define LITTLE64(x) (x)
 #endif
+
+static inline bool arena_allowed(size_t length)
+{
+    return length >= ARENA_MIN && length <= ARENA_MAX && length % 16 == 0;
+}
 
 static inline uint64_t field_get(const uint8_t *arena, uint32_t c,
                                  enum field f)
@@ -82,6 +110,27 @@ static inline void word_put(uint8_t *record, unsigned i, uint32_t v)
 {
     v = LITTLE32(v);
     memcpy(record + 4 * (size_t)i, &v, sizeof v);
+}
+
+static inline uint32_t version_get(const uint8_t *file)
+{
+    return file[IMAGE_VERSION] | (uint32_t)file[IMAGE_VERSION + 1] << 8;
+}
+
+static inline void version_put(uint8_t *file, uint32_t version)
+{
+    file[IMAGE_VERSION] = (uint8_t)version;
+    file[IMAGE_VERSION + 1] = (uint8_t)(version >> 8);
+}
+
+static inline uint32_t length_get(const uint8_t *file)
+{
+    return word_get(file + IMAGE_LENGTH, 0);
+}
+
+static inline void length_put(uint8_t *file, uint32_t length)
+{
+    word_put(file + IMAGE_LENGTH, 0, length);
 }
 
 #endif

@@ -192,3 +192,64 @@ struct second_fault oracle_audit(const uint8_t *arena, size_t length,
                                           (uint32_t)chunks.member[i] };
     return (struct second_fault){ 0, SECOND_SOUND, 0 };
 }
+
+/* ---- what the lists reach ---- */
+
+static bool occurs_before(size_t i)
+{
+    for (size_t j = 0; j < i; j++)
+        if (members.member[j] == members.member[i])
+            return true;
+    return false;
+}
+
+/* Whether a bin's i-th member stands wrongly behind the one before it. */
+static bool misplaced(const struct subject *s, unsigned number, size_t i)
+{
+    uint64_t c = members.member[i];
+    if (i == 0)
+        return eight(s, c + 24) != PLAIN_NONE64;
+    uint64_t before = members.member[i - 1];
+    return eight(s, c + 24) != before
+        || (number >= 64 && size_at(s, c) > size_at(s, before));
+}
+
+/* How many of a list, as it was read out, stand before its first bad chunk. */
+static size_t good_members(const struct subject *s, const struct list *l)
+{
+    size_t i = 0;
+    for (; i < members.count; i++) {
+        uint64_t c = members.member[i];
+        if (c == top() || holds(&met, c) || occurs_before(i)
+            || !owns(l, size_at(s, c)))
+            break;
+        if (l->kind == SECOND_CACHE && i == 7)
+            break;
+        if (l->kind == SECOND_BIN && misplaced(s, l->number, i))
+            break;
+    }
+    return i;
+}
+
+size_t oracle_reached(const uint8_t *arena, size_t length,
+                      const uint8_t *record, unsigned *list)
+{
+    struct subject s = { arena, record, length };
+
+    collect_tiles(&s);
+    for (size_t i = 0; i < chunks.count; i++)
+        list[i] = chunks.member[i] == top() ? ORACLE_TOP : ORACLE_LIVE;
+    met.count = 0;
+    for (unsigned n = 0; n < 200; n++) {
+        struct list l = nth_list(&s, n);
+        read_out(&s, &l);
+        size_t good = good_members(&s, &l);
+        for (size_t i = 0; i < good; i++)
+            add(&met, members.member[i]);
+        for (size_t i = 0; i < chunks.count; i++)
+            for (size_t j = 0; j < good; j++)
+                if (members.member[j] == chunks.member[i])
+                    list[i] = n;
+    }
+    return chunks.count;
+}

@@ -1,7 +1,8 @@
 /*
  * The audit once more, slow and by sets: each list is read out as a plain
  * sequence first, then every condition of document 01 is asked of it in its
- * own loop. Shares no line with heap2.c.
+ * own loop; and so what the lists reach, for heapimage. Shares no line with
+ * heap2.c and show2.c.
  */
 #ifndef ORACLE_H
 #define ORACLE_H
@@ -13,5 +14,15 @@
 
 struct second_fault oracle_audit(const uint8_t *arena, size_t length,
                                  const uint8_t *record, size_t record_len);
+
+/*
+ * In which list each tile of a heap is whose record and tiles are sound, by
+ * rising offset: 0 to 199 in the audit's order, or one of these two. Each list
+ * reaches the chunks before its first bad one. Answers the number of tiles.
+ */
+#define ORACLE_LIVE 200u
+#define ORACLE_TOP 201u
+size_t oracle_reached(const uint8_t *arena, size_t length,
+                      const uint8_t *record, unsigned *list);
 
 #endif

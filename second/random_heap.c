@@ -427,6 +427,49 @@ void damage_field(struct random *r, uint8_t *arena, uint32_t length,
     }
 }
 
+/* A tile of the same size, if a few draws find one, else any. */
+static uint32_t random_equal(struct random *r, const uint8_t *arena,
+                             uint32_t length, uint32_t size)
+{
+    uint32_t at = random_tile(r, arena, length);
+    for (uint32_t tries = random_below(r, 30); tries > 0; tries--) {
+        if (size_at(arena, at) == size)
+            break;
+        at = random_tile(r, arena, length);
+    }
+    return at;
+}
+
+/* The head, first or last of a list that may own such a chunk. */
+static unsigned random_home(struct random *r, uint32_t size)
+{
+    uint32_t k = (size - 32) / 16;
+    switch (random_below(r, 5)) {
+    case 0: return plain_cache_head(k < 64 ? k : 63);
+    case 1: return plain_fast_head(k < 10 ? k : 9);
+    case 2: return plain_bin_first(1);
+    case 3: return plain_bin_first(plain_bin(size));
+    default: return plain_bin_last(plain_bin(size));
+    }
+}
+
+void damage_lists(struct random *r, uint8_t *arena, uint32_t length,
+                  uint8_t *record)
+{
+    uint32_t times = 1 + random_below(r, 8);
+
+    for (uint32_t i = 0; i < times; i++) {
+        uint32_t from = random_tile(r, arena, length);
+        uint32_t size = size_at(arena, from);
+        uint32_t to = random_equal(r, arena, length, size);
+        switch (random_below(r, 4)) {
+        case 0: case 1: plain_put(arena + from + 16, 8, to); break;
+        case 2: plain_put(arena + from + 24, 8, to); break;
+        default: plain_put_word(record, random_home(r, size), to);
+        }
+    }
+}
+
 void damage_bytes(struct random *r, uint8_t *arena, uint32_t length,
                   uint8_t *record)
 {

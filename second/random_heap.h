@@ -57,6 +57,14 @@ void flawed_heap(struct random *r, enum flaw flaw, uint8_t *arena,
 void damage_field(struct random *r, uint8_t *arena, uint32_t length,
                   uint8_t *record);
 
+/*
+ * Has links and starts of lists lead to other chunks, mostly to ones of a size
+ * that the list may own: lists that cross, circles, lists too long, several of
+ * them. Only the tiles must be sound, and they stay as they are.
+ */
+void damage_lists(struct random *r, uint8_t *arena, uint32_t length,
+                  uint8_t *record);
+
 /* Changes some bytes anywhere, or all of them. */
 void damage_bytes(struct random *r, uint8_t *arena, uint32_t length,
                   uint8_t *record);

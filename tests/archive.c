@@ -8,9 +8,9 @@
  *
  * Seeds are fixed: a run is the same everywhere. The argument, a number, makes
  * it that many times as long, with further seeds. This file has the order of
- * the groups; figures.c, shapes.c, heaps.c, bigger.c and stack.c have the
- * groups, pair.c has one call on both programs, holders.c the holders of blocks
- * and demand 3.
+ * the groups; figures.c, shapes.c, heaps.c, bigger.c, images.c and stack.c have
+ * the groups, pair.c has one call on both programs, holders.c the holders of
+ * blocks and demand 3, guarded.c buffers between guards.
  */
 #include "groups.h"
 #include "pair.h"
@@ -27,13 +27,13 @@ static void the_run(void)
     group("the run made 100,000 calls, met every refusal and every fault");
     CHECK(tally.calls >= LEAST_CALLS, "only %llu calls were made",
           (unsigned long long)tally.calls);
-    for (unsigned no = 1; no <= 5; no++)
+    for (unsigned no = 1; no <= 7; no++)
         CHECK(tally.refused[no] > 0, "no call was refused with %u", no);
     for (unsigned kind = 0; kind <= 6; kind++)
         CHECK(tally.faults[kind] > 0, "no audit found kind %u", kind);
-    remark(", %llu calls, %llu audits; refused with 1 to 5:",
+    remark(", %llu calls, %llu audits; refused with 1 to 7:",
            (unsigned long long)tally.calls, (unsigned long long)tally.audits);
-    for (unsigned no = 1; no <= 5; no++)
+    for (unsigned no = 1; no <= 7; no++)
         remark(" %llu", (unsigned long long)tally.refused[no]);
     remark("; faults of kind 1 to 6:");
     for (unsigned kind = 1; kind <= 6; kind++)
@@ -93,6 +93,23 @@ int main(int argc, char **argv)
                  500 * times);
     overruns(400 * times);
     guards(120 * times);
+    image_bytes();
+    image_headers();
+    image_short_files();
+    image_lengths();
+    image_fields();
+    image_writes();
+    images_past_32_bits();
+    sound_images(2000 * times);
+    harmed_images("images of heaps with one field changed", harm_field,
+                  11 << 20, 1500 * times);
+    harmed_images("images of heaps with lists that cross", harm_lists,
+                  12 << 20, 1500 * times);
+    harmed_images("images of heaps with bytes changed", harm_bytes, 13 << 20,
+                  500 * times);
+    harmed_images("images of bytes that are no heap", harm_all, 14 << 20,
+                  200 * times);
+    continued_images(60 * times);
     stack_taken(600 * times);
     the_run();
     return finish();

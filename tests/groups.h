@@ -41,10 +41,27 @@ void flawed_heaps(uint32_t rounds);
 void overruns(uint32_t rounds);
 void guards(uint32_t rounds);
 
+/* Random calls on a heap that may or may not be sound. */
+void calls_on_any(struct pair *p, uint32_t calls);
+
 /* bigger.c */
 void bigger_arenas(uint32_t rounds);
 void yields_with_the_top(uint32_t rounds);
 void premises_needed(void);
+
+/* images.c */
+void image_bytes(void);
+void image_headers(void);
+void image_short_files(void);
+void image_lengths(void);
+void image_fields(void);
+void image_writes(void);
+void images_past_32_bits(void);
+void sound_images(uint32_t rounds);
+void harmed_images(const char *name, harm *do_harm, uint64_t seeds,
+                   uint32_t rounds);
+harm harm_lists;
+void continued_images(uint32_t rounds);
 
 /* stack.c */
 void stack_taken(uint32_t rounds);

@@ -3,15 +3,12 @@
  * calls made: random sound ones, ones that break a rule, damaged ones. The
  * last group runs both kinds between guards.
  */
-#define _DEFAULT_SOURCE
 #include "groups.h"
 
-#include <stdio.h>
 #include <stdlib.h>
 #include <string.h>
-#include <sys/mman.h>
-#include <unistd.h>
 
+#include "guarded.h"
 #include "holders.h"
 #include "plain.h"
 
@@ -337,8 +334,7 @@ static uint64_t any_number(struct pair *p)
     }
 }
 
-/* Calls on a heap that may or may not be sound. */
-static void calls_on_any(struct pair *p, uint32_t calls)
+void calls_on_any(struct pair *p, uint32_t calls)
 {
     for (uint32_t i = 0; i < calls && !group_failed(); i++) {
         bool sound = both_audits(p).kind == SECOND_SOUND;
@@ -498,41 +494,6 @@ void overruns(uint32_t rounds)
 
 /* ---- nothing outside the buffers ---- */
 
-/* Pages nobody may touch on both sides, and the byte 0xa5 up to them. */
-struct guarded {
-    uint8_t *map;
-    size_t size, length, page;
-    uint8_t *bytes;
-};
-
-static struct guarded guard(size_t length, size_t slack)
-{
-    struct guarded g = { .length = length,
-                         .page = (size_t)sysconf(_SC_PAGESIZE) };
-    size_t inner = (length + slack + g.page - 1) / g.page * g.page;
-
-    g.size = inner + 2 * g.page;
-    g.map = mmap(NULL, g.size, PROT_READ | PROT_WRITE,
-                 MAP_PRIVATE | MAP_ANONYMOUS, -1, 0);
-    if (g.map == MAP_FAILED || mprotect(g.map, g.page, PROT_NONE) != 0
-        || mprotect(g.map + g.size - g.page, g.page, PROT_NONE) != 0) {
-        fputs("tests/archive: the system lends no guarded pages\n", stderr);
-        exit(2);
-    }
-    memset(g.map + g.page, 0xa5, inner);
-    g.bytes = g.map + g.page + inner - slack - length;
-    return g;
-}
-
-static bool guard_kept(const struct guarded *g)
-{
-    const uint8_t *end = g->map + g->size - g->page;
-    for (const uint8_t *at = g->map + g->page; at < end; at++)
-        if ((at < g->bytes || at >= g->bytes + g->length) && *at != 0xa5)
-            return false;
-    return true;
-}
-
 /* Also shows that neither buffer needs any alignment. */
 void guards(uint32_t rounds)
 {
@@ -564,8 +525,8 @@ void guards(uint32_t rounds)
         CHECK(guard_kept(&arena) && guard_kept(&record),
               "seed %llu: a byte outside a buffer was written",
               (unsigned long long)seed);
-        munmap(arena.map, arena.size);
-        munmap(record.map, record.size);
+        guard_free(&arena);
+        guard_free(&record);
         p.ours = own;
         pair_free(&p);
     }

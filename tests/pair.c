@@ -6,8 +6,9 @@
 
 #include "heap.h"
 
-const char *const call_name[] = { "open",     "grant",   "release", "resize",
-                                  "emptying", "joining", "audit" };
+const char *const call_name[] = { "open",     "grant",       "release",
+                                  "resize",   "emptying",    "joining",
+                                  "audit",    "write_image", "read_image" };
 
 struct tally tally;
 
@@ -48,7 +49,7 @@ struct second_answer call_ours(struct lent *l, enum call call,
     case JOINING:
         a = heap_joining(l->arena, l->length, l->record, l->record_len);
         break;
-    case AUDIT:
+    case AUDIT: case WRITE_IMAGE: case READ_IMAGE:
         break;
     }
     return (struct second_answer){ a.no, a.mem, a.usable };
@@ -64,7 +65,7 @@ struct second_answer call_theirs(struct lent *l, enum call call,
     case RESIZE: return lent_resize(l, number, n);
     case EMPTYING: return lent_emptying(l);
     case JOINING: return lent_joining(l);
-    case AUDIT: break;
+    case AUDIT: case WRITE_IMAGE: case READ_IMAGE: break;
     }
     return (struct second_answer){ 0, 0, 0 };
 }
@@ -73,6 +74,22 @@ struct second_fault audit_ours(const struct lent *l)
 {
     struct heap_fault f =
         heap_audit(l->arena, l->length, l->record, l->record_len);
+    return (struct second_fault){ f.no, f.kind, f.number };
+}
+
+struct second_answer write_ours(const struct lent *l, uint8_t *file,
+                                size_t file_len)
+{
+    struct heap_answer a = heap_write_image(
+        l->arena, l->length, l->record, l->record_len, file, file_len);
+    return (struct second_answer){ a.no, a.mem, a.usable };
+}
+
+struct second_fault read_ours(const uint8_t *file, size_t file_len,
+                              struct lent *l)
+{
+    struct heap_fault f = heap_read_image(file, file_len, l->arena, l->length,
+                                          l->record, l->record_len);
     return (struct second_fault){ f.no, f.kind, f.number };
 }
 

@@ -12,7 +12,18 @@
 #include "check.h"
 #include "random_heap.h"
 
-enum call { OPEN, GRANT, RELEASE, RESIZE, EMPTYING, JOINING, AUDIT };
+/* Those up to JOINING change a heap. */
+enum call {
+    OPEN,
+    GRANT,
+    RELEASE,
+    RESIZE,
+    EMPTYING,
+    JOINING,
+    AUDIT,
+    WRITE_IMAGE,
+    READ_IMAGE
+};
 
 extern const char *const call_name[];
 
@@ -25,7 +36,7 @@ struct pair {
 
 /* What the whole run did. */
 extern struct tally {
-    uint64_t calls, audits, refused[6], faults[7];
+    uint64_t calls, audits, refused[8], faults[7];
     uint64_t resized, moved; /* blocks held by a model */
 } tally;
 
@@ -33,14 +44,18 @@ extern struct tally {
 void *memory(size_t length);
 
 /*
- * One call on one of the two; AUDIT is none of them. The number is a grant's
- * n, else a mem; a resize has its n beside it, which the others pass by.
+ * One call up to JOINING on one of the two. The number is a grant's n, else a
+ * mem; a resize has its n beside it, which the others pass by.
  */
 struct second_answer call_ours(struct lent *l, enum call call,
                                uint64_t number, uint64_t n);
 struct second_answer call_theirs(struct lent *l, enum call call,
                                  uint64_t number, uint64_t n);
 struct second_fault audit_ours(const struct lent *l);
+struct second_answer write_ours(const struct lent *l, uint8_t *file,
+                                size_t file_len);
+struct second_fault read_ours(const uint8_t *file, size_t file_len,
+                              struct lent *l);
 bool same_answer(struct second_answer a, struct second_answer b);
 bool same_fault(struct second_fault a, struct second_fault b);
 bool is_sound(const struct lent *l); /* by the archive's audit */

@@ -24,10 +24,18 @@ static struct {
 
 static struct plain_view view;
 
+static uint8_t file[9 + HEAP_RECORD_BYTES + HEAP_ARENA_MAX];
+
 static void the_call(void)
 {
+    size_t file_len = 9 + HEAP_RECORD_BYTES + now.heap->length;
+
     if (now.call == AUDIT)
         audit_ours(now.heap);
+    else if (now.call == WRITE_IMAGE)
+        write_ours(now.heap, file, file_len);
+    else if (now.call == READ_IMAGE)
+        read_ours(file, file_len, now.heap);
     else
         call_ours(now.heap, now.call, now.number, now.n);
 }
@@ -61,7 +69,7 @@ static uint32_t some_live(struct random *r, const struct lent *heap)
     return chosen;
 }
 
-static uint32_t most[AUDIT + 1];
+static uint32_t most[READ_IMAGE + 1];
 
 /* The call in hand, on the heap in hand. */
 static void take(uint64_t seed)
@@ -140,10 +148,12 @@ void stack_taken(uint32_t rounds)
         if (i % 4 == 0)
             damage_field(&p.r, p.ours.arena, (uint32_t)p.ours.length,
                          p.ours.record);
+        take_any(&p.r, &p.ours, WRITE_IMAGE, i);
+        take_any(&p.r, &p.ours, READ_IMAGE, i);
         for (unsigned call = AUDIT + 1; call-- > OPEN;)
             take_any(&p.r, &p.ours, call, i);
         pair_free(&p);
     }
-    for (unsigned call = OPEN; call <= AUDIT; call++)
+    for (unsigned call = OPEN; call <= READ_IMAGE; call++)
         remark(", %s %u", call_name[call], most[call]);
 }

@@ -37,7 +37,7 @@ drop-tabulate (suc n) (suc i) j f h =
     let e : i + suc j ≡ suc i + j = omega arith in
     drop-tabulate n i (suc j) f (le-of-suc-le-suc h) ∙ ap (λ (x : ℕ). f x ∷ drop (suc i) (tabulate n f (suc j))) e
 
-list-next : (w r : List ℕ) (i : ℕ) → i < 200 → drop i (listsOf w r) ≡ listAt w r i ∷ drop (suc i) (listsOf w r)
+pub list-next : (w r : List ℕ) (i : ℕ) → i < 200 → drop i (listsOf w r) ≡ listAt w r i ∷ drop (suc i) (listsOf w r)
 unfolding listsOf
 list-next w r i h =
     let e : i + 0 ≡ i = omega arith in
@@ -127,10 +127,10 @@ pub list-begin : (w r m : List ℕ) (i q : ℕ) (k : ListKind) (c : ℕ) → k �
 list-begin w r m i q k c e g h o = rw (g, e) (list-enter w r m i q h o)
 
 -- ---- one turn
-chunks-more : (f : ℕ) (w : List ℕ) (c : ℕ) → (c ≡ none64 → ⊥) → chunksFrom (suc f) w c ≡ c ∷ chunksFrom f w (getD w (fwdWord c) 0)
+pub chunks-more : (f : ℕ) (w : List ℕ) (c : ℕ) → (c ≡ none64 → ⊥) → chunksFrom (suc f) w c ≡ c ∷ chunksFrom f w (getD w (fwdWord c) 0)
 chunks-more f w c n = rw (ne-eqb c none64 n, chunksFrom)
 
-chunks-end : (f : ℕ) (w : List ℕ) (c : ℕ) → c ≡ none64 → chunksFrom f w c ≡ []
+pub chunks-end : (f : ℕ) (w : List ℕ) (c : ℕ) → c ≡ none64 → chunksFrom f w c ≡ []
 chunks-end zero w c e = refl
 chunks-end (suc f) w c e = rw (eq-eqb c none64 e, chunksFrom)
 

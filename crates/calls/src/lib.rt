@@ -16,3 +16,5 @@ pub use call_joining::joining;
 pub use call_open::open;
 pub use call_release::release;
 pub use call_resize::resize;
+pub use shape::allowed;
+pub use shape::shaped;

@@ -4,6 +4,8 @@ use mathlib.Core.List.{List}
 use Prim.Native.Nat.{ℕ}
 use Rattle.machine.specs.Calls.{After, after, auditCall, answerNumbers, faultNumbers}
 use Rattle.machine.specs.declared.{Answer.Answer, HeapAnswer.HeapAnswer, HeapFault.HeapFault}
+use Rattle.image.specs.Image.{Written, written, AfterReading, afterReading, readingNumbers}
+use Rattle.image.specs.declared.Reading.{Reading}
 
 -- arena bytes, record bytes and the three numbers
 pub data Back : Type 0 where
@@ -24,7 +26,29 @@ numbered (after a r x) = back a r (answerNumbers x)
 pub back-is : (a r : List ℕ) (x : Answer) (n : HeapAnswer) {y : After} → after a r x ≡ y → n ≡ answerNumbers x → back a r n ≡ numbered y
 back-is a r x n e q = ap (back a r) q ∙ ap numbered e
 
--- ---- any two results that meet a promise are equal: every arena byte, every record byte and the three numbers; of an audit, its three numbers
+-- ---- a heap in a file. Writing: file bytes and the three numbers
+pub data WrittenBack : Type 0 where
+  writtenBack : List ℕ → HeapAnswer → WrittenBack
+
+abbrev pub numberedWritten : Written → WrittenBack
+numberedWritten (written f x) = writtenBack f (answerNumbers x)
+
+pub written-back-is : (f : List ℕ) (x : Answer) (n : HeapAnswer) {y : Written} → written f x ≡ y → n ≡ answerNumbers x → writtenBack f n ≡ numberedWritten y
+written-back-is f x n e q = ap (writtenBack f) q ∙ ap numberedWritten e
+
+-- reading: arena bytes, record bytes and the three numbers
+pub data ReadBack : Type 0 where
+  readBack : List ℕ → List ℕ → HeapFault → ReadBack
+
+abbrev pub numberedRead : AfterReading → ReadBack
+numberedRead (afterReading a r x) = readBack a r (readingNumbers x)
+
+pub read-back-is : (a r : List ℕ) (x : Reading) (n : HeapFault) {y : AfterReading} → afterReading a r x ≡ y → n ≡ readingNumbers x
+    → readBack a r n ≡ numberedRead y
+read-back-is a r x n e q = ap (readBack a r) q ∙ ap numberedRead e
+
+-- ---- any two results that meet a promise are equal: every arena byte, every record byte and the three numbers; of an audit, its three numbers; of a writing,
+-- every file byte and the three numbers
 pub exported-unique : (call : After) (a b r q : List ℕ) (x y : HeapAnswer) → back a r x ≡ numbered call → back b q y ≡ numbered call → (a ≡ b) × (r ≡ q) × (x ≡ y)
 exported-unique call a b r q x y p s =
     let e : back a r x ≡ back b q y = p ∙ sym s in
@@ -32,3 +56,11 @@ exported-unique call a b r q x y p s =
 
 pub exported-audit-unique : (a r : List ℕ) (x y : HeapFault) → x ≡ faultNumbers (auditCall a r) → y ≡ faultNumbers (auditCall a r) → x ≡ y
 exported-audit-unique a r x y p q = p ∙ sym q
+
+pub exported-write-unique : (call : Written) (f g : List ℕ) (x y : HeapAnswer) → writtenBack f x ≡ numberedWritten call → writtenBack g y ≡ numberedWritten call
+    → (f ≡ g) × (x ≡ y)
+exported-write-unique call f g x y p q = (cc, cc)
+
+pub exported-read-unique : (call : AfterReading) (a b r q : List ℕ) (x y : HeapFault) → readBack a r x ≡ numberedRead call → readBack b q y ≡ numberedRead call
+    → (a ≡ b) × (r ≡ q) × (x ≡ y)
+exported-read-unique call a b r q x y p s = (cc, cc, cc)

@@ -3,6 +3,11 @@
 ghost use mathlib.Core.Path.{_≡_};
 ghost use Rattle.machine.specs.Calls.{faultNumbers, listNumbers, openCall, grantCall, releaseCall, resizeCall, emptyingCall, joiningCall, auditCall};
 ghost use Rattle.heap.specs.Exported.{back, numbered};
+
+mod image_calls; // image_calls.rt: a heap in a file
+
+pub use image_calls::heap_read_image;
+pub use image_calls::heap_write_image;
 use machine::Audited;
 use machine::HeapAnswer;
 use machine::HeapFault;

@@ -16,7 +16,8 @@ use Rattle.machine.specs.Audit.{tileFault, goodFrom, listFault, flagFault, audi
 use Rattle.machine.specs.Calls.{auditCall, closedRecord, openCall, grantCall, releaseCall, resizeCall, jobCall}
 use Rattle.machine.proofs.Script.{same?}
 use Rattle.script.specs.Grammar.{digitsFrom, numberOf, beforeBlank, behindBlank, lineOf}
-use Rattle.script_format.specs.Format.{decimal, field, callText, questionText}
+use Rattle.text.specs.Text.{decimal, field, questionText}
+use Rattle.script_format.specs.Format.{callText}
 use Rattle.script_run.specs.Run.{run, called, placedStep, lineStep}
 use Rattle.heaplog.specs.Script.{linesFrom, printed}
 

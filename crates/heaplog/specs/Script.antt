@@ -3,7 +3,8 @@ use mathlib.Core.List.{List, [], _∷_, _++_}
 use mathlib.Core.Bool.{true, false}
 use Prim.Native.Nat.{ℕ}
 use lib.Dec.{eqb}
-use Rattle.script_format.specs.Format.{newline, header}
+use Rattle.text.specs.Text.{newline}
+use Rattle.script_format.specs.Format.{header}
 use Rattle.script_run.specs.Run.{Run, run, Step, step, beforeAll, lineStep, byteStep, pieceStep, endStep}
 
 -- the lines of a text, after the bytes p of a line: each ends in a newline, which the last may lack if it has a byte

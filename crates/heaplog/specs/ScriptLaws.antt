@@ -10,7 +10,8 @@ use Rattle.script.specs.Rules.{inPlace?}
 use Rattle.script.specs.Grammar.{lineOf, keptBytes}
 use Rattle.script.specs.declared.Line.{Line}
 use Rattle.script_reader.specs.GrammarLaws.{lineOf-take}
-use Rattle.script_format.specs.Format.{newline, questionText, header}
+use Rattle.text.specs.Text.{newline, questionText}
+use Rattle.script_format.specs.Format.{header}
 use Rattle.script_run.specs.Run.{Run, run, Step, step, behind, andOn, beforeAll, called, lengthOf, ranStep, counted, placedStep, lineStep, byteStep, pieceStep, endStep}
 use Rattle.heaplog.specs.Script.{linesFrom, andThen, printed, heaplog, printedBytes, whole, printedPieces}
 

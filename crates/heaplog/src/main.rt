@@ -1,11 +1,15 @@
-// heaplog: runs a script of calls from standard input and prints a line for each. Reading and writing stand here; what a piece of the script does stands in
-// `script_run`. Assumes nothing of its own: what io's reads and writes assume, libc says.
+// heaplog: runs a script of calls from standard input and prints a line for each; with -o FILE it writes the image of the heap that the run leaves. Reading and
+// writing stand here; what a piece of the script does stands in `script_run`, what an image is in `image`. Assumes nothing of its own: what the reads and
+// writes of io and os assume, libc says.
+mod saved; // saved.rt: -o FILE
+
 ghost use mathlib.Core.Path.{_≡_};
 ghost use Prim.Native.Nat.{_≤_};
 ghost use lib.ListN.{length};
 ghost use Rattle.script_run.specs.Run.{Buffers};
 use libc::STDIN_FILENO;
 use libc::STDOUT_FILENO;
+use saved::save_heap;
 use script_run::Log;
 
 // The output buffer: room for a line of 86 bytes for each byte of a piece.
@@ -63,4 +67,5 @@ fn main() {
             left -= 1;
         }
     }
+    save_heap(&arena, &control, log.opened);
 }

@@ -5,6 +5,7 @@ use mathlib.Core.Bool.{Bool, true, false}
 use Prim.Native.Nat.{ℕ, _+_, _*_, _-_}
 use lib.Dec.{eqb, leb}
 use lib.ListN.{length, take}
+use Rattle.text.specs.Text.{blank}
 use Rattle.machine.specs.Lists.{both}
 use Rattle.script.specs.declared.{Line.Line, Number.Number, LineText.LineText}
 use Rattle.script.specs.declared.Line.the-variants.{Open, Grant, Release, Resize, Settle, Other}
@@ -25,9 +26,6 @@ letterZ = 90
 
 abbrev pub letterS : ℕ
 letterS = 83
-
-abbrev pub blank : ℕ
-blank = 32
 
 abbrev pub digit? : ℕ → Bool
 digit? b = both (leb 48 b) (leb b 57)

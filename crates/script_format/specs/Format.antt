@@ -1,26 +1,9 @@
--- The text that heaplog prints, as lists of bytes: the header, a line for each call, and `? k`. Definitions only.
+-- The text that heaplog prints, as lists of bytes: the header, and a line for each call. Definitions only.
 use mathlib.Core.List.{List, [], _∷_, _++_}
-use mathlib.Core.Bool.{true, false}
-use Prim.Native.Nat.{ℕ, zero, suc, _+_, _/_, _%_}
-use lib.Dec.{ltb}
+use Prim.Native.Nat.{ℕ}
 use Rattle.machine.specs.Calls.{answerNumbers}
 use Rattle.machine.specs.declared.{Answer.Answer, HeapAnswer.HeapAnswer}
-use Rattle.script.specs.Grammar.{blank}
-
-abbrev pub newline : ℕ
-newline = 10
-
-abbrev pub question : ℕ
-question = 63
-
--- the last decimal digits of n, at most k of them, with no zero in front of a number above 0
-unfoldable pub decimal : ℕ → ℕ → List ℕ
-decimal zero n = []
-decimal (suc k) n = elim (ltb n 10) [ true ↦ (48 + n) ∷ [] | false ↦ decimal k (n / 10) ++ ((48 + n % 10) ∷ []) ]
-
--- a blank and a number: 20 digits are all of any 64-bit number
-unfoldable pub field : ℕ → List ℕ
-field n = blank ∷ decimal 20 n
+use Rattle.text.specs.Text.{newline, field}
 
 -- letter, refusal number or 0, mem, usable, top
 unfoldable pub callText : ℕ → HeapAnswer → ℕ → List ℕ
@@ -28,9 +11,6 @@ callText letter x top = letter ∷ (field (x .no) ++ (field (x .mem) ++ (field (
 
 abbrev pub answerText : ℕ → Answer → ℕ → List ℕ
 answerText letter x top = callText letter (answerNumbers x) top
-
-unfoldable pub questionText : ℕ → List ℕ
-questionText k = question ∷ (field k ++ (newline ∷ []))
 
 -- call no at usable top
 unfoldable pub header : List ℕ

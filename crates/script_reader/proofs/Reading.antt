@@ -10,7 +10,8 @@ use lib.ListN.{length, take, drop, getD, set, length-append, length-take, length
 use lib.Seq.{drop-cons, drop-length, take-suc-set, take-all, take-append-le}
 use borrow.Author.Tests.{le-leb, lt-leb, leb-true, ne-eqb}
 use Rattle.machine.specs.Lists.{both}
-use Rattle.script.specs.Grammar.{digit?, digitsFrom, numberOf, alone, blank, letterZ, letterS, numbered, beforeBlank, behindBlank, resized, spaced, lineOf, keptBytes}
+use Rattle.text.specs.Text.{blank}
+use Rattle.script.specs.Grammar.{digit?, digitsFrom, numberOf, alone, letterZ, letterS, numbered, beforeBlank, behindBlank, resized, spaced, lineOf, keptBytes}
 use Rattle.script.specs.declared.Number.{Number}
 use Rattle.script.specs.declared.Number.the-variants.{Of, Nothing}
 use Rattle.script.specs.declared.Line.the-variants.{Settle, Other}

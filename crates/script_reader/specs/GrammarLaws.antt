@@ -8,7 +8,8 @@ use lib.Dec.{eqb, leb}
 use lib.ListN.{length, take, length-take}
 use lib.Seq.{take-all}
 use borrow.Author.Tests.{le-leb, lt-leb, leb-true, leb-false}
-use Rattle.script.specs.Grammar.{blank, letterZ, digitsFrom, numberOf, numbered, beforeBlank, behindBlank, resized, resizeOf, spaced, lineOf, keptBytes}
+use Rattle.text.specs.Text.{blank}
+use Rattle.script.specs.Grammar.{letterZ, digitsFrom, numberOf, numbered, beforeBlank, behindBlank, resized, resizeOf, spaced, lineOf, keptBytes}
 use Rattle.script.specs.declared.Number.{Number}
 use Rattle.script.specs.declared.Number.the-variants.{Nothing}
 use Rattle.script.specs.declared.Line.{Line}

@@ -17,7 +17,8 @@ use Rattle.script.specs.Rules.{inPlace?, letterOf, first?, endsBy?}
 use Rattle.script.specs.Grammar.{lineOf, keptBytes}
 use Rattle.script.specs.declared.Line.{Line}
 use Rattle.script.specs.declared.Line.the-variants.{Open, Grant, Release, Resize, Settle, Other}
-use Rattle.script_format.specs.Format.{header, answerText, questionText}
+use Rattle.text.specs.Text.{questionText}
+use Rattle.script_format.specs.Format.{header, answerText}
 use Rattle.script_run.specs.Run.{Run, run, Step, step, behind, andOn, beforeAll, lineCall, called, lengthOf, topAfter, ranStep, counted, placedStep, lineStep, byteStep, pieceStep, endStep}
 
 pub one-cleared : (l : List ℕ) (i : ℕ) → i < length l → take i l ≡ replicate i 0 → take (i + 1) (set l i 0) ≡ replicate (i + 1) 0

@@ -12,7 +12,8 @@ use Rattle.script.specs.Grammar.{lineOf, kept, keptBytes}
 use Rattle.script.specs.Rules.{inPlace?, letterOf, endsBy?}
 use Rattle.script.specs.declared.Line.{Line}
 use Rattle.script.specs.declared.Line.the-variants.{Open, Grant, Release, Resize, Settle, Other}
-use Rattle.script_format.specs.Format.{newline, answerText, questionText}
+use Rattle.text.specs.Text.{newline, questionText}
+use Rattle.script_format.specs.Format.{answerText}
 use Rattle.script_run.specs.declared.Log.{Log}
 
 -- the bytes that are lent, of which the opened arena is the first part; the record; the line that is being read; how many lines were run, how long the

@@ -183,7 +183,7 @@ fn run_line(log: Log, arena: &mut [u8], control: &mut [u8], out: &mut [u8]) -> L
         let n = length_of(line, opened);
         return run_placed(k, n, line, at, arena, control, out);
     }
-    let printed = script_format::put_question(out, at, k);
+    let printed = text::put_question(out, at, k);
     let text = script_reader::no_bytes();
     Log {
         text,

@@ -65,6 +65,15 @@ loop-less-2 c = search needs
 loop-again-2 : tie.Need-loop-again-2 Inv-loop μ-loop
 loop-again-2 c = search needs
 
+slice-aggregate-save-heap : tie.Need-slice-aggregate-save-heap Inv-loop μ-loop
+slice-aggregate-save-heap c = search needs
+
+slice-aggregate-save-heap-2 : tie.Need-slice-aggregate-save-heap-2 Inv-loop μ-loop
+slice-aggregate-save-heap-2 c = search needs
+
+save-heap-requires : tie.Need-save-heap-requires Inv-loop μ-loop
+save-heap-requires c κs = search needs
+
 returns : tie.Need-returns Inv-loop μ-loop
 returns c = search needs
 
@@ -91,4 +100,7 @@ main-spec =
     sub-left
     loop-less-2
     loop-again-2
+    slice-aggregate-save-heap
+    slice-aggregate-save-heap-2
+    save-heap-requires
     returns)

@@ -1,0 +1,5 @@
+pub mod Image
+pub mod Ways
+pub mod Parts
+pub mod Audits
+pub mod Inverse

@@ -1,0 +1,81 @@
+-- Where the audit's answer has tiles to show, the shape is good and so are the tiles: a fault of the record or of a tile comes first. By the audit's parts in
+-- turn. Assumes nothing.
+use mathlib.Core.Path.{_≡_, refl}
+use mathlib.Core.List.{List, [], _∷_}
+use mathlib.Core.Bool.{Bool, true, false}
+use Prim.Native.Nat.{ℕ, _+_, _*_, _%_, _≤_}
+use lib.Dec.{eqb, leb}
+use lib.ListN.{length, getD}
+use borrow.Author.Tests.{eqb-true, leb-true}
+use Rattle.le.specs.Arena.{arenaWords}
+use Rattle.sizes.specs.Layout.{lengthWord, topWord}
+use Rattle.machine.specs.Lists.{both}
+use Rattle.machine.specs.Heap.{Tile}
+use Rattle.machine.specs.View.{tilesOf}
+use Rattle.machine.specs.Audit.{sound?, first, tileOk, tileFault, auditOf}
+use Rattle.machine.specs.Calls.{arenaAllowed?, shape?, wordsOf, auditCall}
+use Rattle.machine.specs.declared.Audited.{Audited}
+use Rattle.machine.specs.declared.Audited.the-variants as A
+use Rattle.sound.specs.Release.{both-true}
+use Rattle.audit_walks.specs.Tests.{false-true, is-sound}
+use Rattle.audit_walks.specs.Marks.{ArenaBytes}
+use Rattle.image_text.specs.ImageText.{tiled?}
+
+-- arena bytes a and record bytes r whose tiles are shown
+pub record Shown (a r : List ℕ) : Type 0 where
+  pub arena : ArenaBytes a
+  pub long : length r ≡ 1572
+  pub tiled : tiled? (auditOf (arenaWords a) (wordsOf r)) ≡ true
+
+-- ---- the shape
+pub allowed-parts : (n : ℕ) → arenaAllowed? n ≡ true → (n % 16 ≡ 0) × (32 ≤ n) × (n ≤ 262144)
+allowed-parts n e =
+    let p = both-true (eqb (n % 16) 0) (both (leb 32 n) (leb n 262144)) e in
+    let q = both-true (leb 32 n) (leb n 262144) (p .1) in
+    (eqb-true (n % 16) 0 (p .0), leb-true 32 n (q .0), leb-true n 262144 (q .1))
+
+-- ---- record and tiles
+record-shown : (b : Bool) (y : Audited) → tiled? (first (elim b [ true ↦ A.Sound | false ↦ A.Record ]) y) ≡ true → tiled? y ≡ true
+record-shown true y e = e
+record-shown false y e = false-true e
+
+tile-shown : (w : List ℕ) (top o : ℕ) (ts : List Tile) → tiled? (tileFault w top o ts) ≡ true → tileFault w top o ts ≡ A.Sound
+unfolding tileFault
+tile-shown w top o [] e = go (both (tileOk w o) _) e
+  where
+    go : (b : Bool) → tiled? (elim b [ true ↦ A.Sound | false ↦ A.Tile o ]) ≡ true → elim b [ true ↦ A.Sound | false ↦ A.Tile o ] ≡ A.Sound
+    go true e = refl
+    go false e = false-true e
+tile-shown w top o (t ∷ ts) e = go (tileOk w o) (λ h. tile-shown w top (o + t .size) ts h) e
+  where
+    next : Audited
+    next = tileFault w top (o + t .size) ts
+
+    go : (b : Bool) → (tiled? next ≡ true → next ≡ A.Sound) → tiled? (elim b [ true ↦ next | false ↦ A.Tile o ]) ≡ true
+        → elim b [ true ↦ next | false ↦ A.Tile o ] ≡ A.Sound
+    go true h e = h e
+    go false h e = false-true e
+
+first-shown : (x y : Audited) → (tiled? x ≡ true → x ≡ A.Sound) → tiled? (first x y) ≡ true → x ≡ A.Sound
+first-shown x y h e = go (sound? x) refl e
+  where
+    go : (b : Bool) → sound? x ≡ b → tiled? (elim b [ true ↦ y | false ↦ x ]) ≡ true → x ≡ A.Sound
+    go true q e = is-sound x q
+    go false q e = h e
+
+pub words-shown : (w r : List ℕ) → tiled? (auditOf w r) ≡ true → tileFault w (getD r topWord 0) 0 (tilesOf w) ≡ A.Sound
+unfolding auditOf
+words-shown w r e =
+    first-shown (tileFault w (getD r topWord 0) 0 (tilesOf w)) _ (tile-shown w (getD r topWord 0) 0 (tilesOf w))
+    (record-shown (eqb (getD r lengthWord 0) (8 * length w)) _ e)
+
+pub tiled-shown : (a r : List ℕ) → tiled? (auditCall a r) ≡ true → Shown a r
+unfolding auditCall
+tiled-shown a r e = go (shape? a r) refl e
+  where
+    go : (b : Bool) → shape? a r ≡ b → tiled? (elim b [ true ↦ auditOf (arenaWords a) (wordsOf r) | false ↦ A.Shape ]) ≡ true → Shown a r
+    go true q e =
+        let p = both-true (eqb (length r) 1572) (arenaAllowed? (length a)) q in
+        let l = allowed-parts (length a) (p .1) in
+        record { arena = record { even = l .0; least = l .1; small = l .2 }; long = eqb-true (length r) 1572 (p .0); tiled = e }
+    go false q e = false-true e

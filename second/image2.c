@@ -1,0 +1,69 @@
+/*
+ * Images. What a file is refused for is asked in the order of the numbers 6, 7
+ * and 1, and nothing is written before the last of it is known.
+ */
+#include "image2.h"
+
+#include <stdbool.h>
+
+#include "layout2.h"
+
+#define VERSION 1
+
+enum refusal { DONE = 0, BAD_LENGTH = 1, BAD_MARK = 6, BAD_VERSION = 7 };
+
+static const uint8_t mark[IMAGE_VERSION - IMAGE_MARK] = { 'H', 'P', 'I' };
+
+struct second_answer second_write_image(const uint8_t *arena, size_t arena_len,
+                                        const uint8_t *record,
+                                        size_t record_len, uint8_t *file,
+                                        size_t file_len)
+{
+    if (!arena_allowed(arena_len) || record_len != RECORD_BYTES
+        || file_len != IMAGE_ARENA + arena_len)
+        return (struct second_answer){ BAD_LENGTH, 0, 0 };
+
+    memcpy(file + IMAGE_MARK, mark, sizeof mark);
+    version_put(file, VERSION);
+    length_put(file, (uint32_t)arena_len);
+    memcpy(file + IMAGE_RECORD, record, RECORD_BYTES);
+    memcpy(file + IMAGE_ARENA, arena, arena_len);
+    return (struct second_answer){ DONE, 0, 0 };
+}
+
+/* A file without a whole length field has none that is allowed. */
+static bool lengths_agree(const uint8_t *file, size_t file_len,
+                          size_t arena_len, size_t record_len)
+{
+    if (file_len < IMAGE_RECORD)
+        return false;
+    uint32_t length = length_get(file);
+    return arena_allowed(length) && file_len == IMAGE_ARENA + (size_t)length
+        && arena_len == length && record_len == RECORD_BYTES;
+}
+
+static enum refusal refusal_of(const uint8_t *file, size_t file_len,
+                               size_t arena_len, size_t record_len)
+{
+    if (file_len < IMAGE_LENGTH
+        || memcmp(file + IMAGE_MARK, mark, sizeof mark) != 0)
+        return BAD_MARK;
+    if (version_get(file) != VERSION)
+        return BAD_VERSION;
+    if (!lengths_agree(file, file_len, arena_len, record_len))
+        return BAD_LENGTH;
+    return DONE;
+}
+
+struct second_fault second_read_image(const uint8_t *file, size_t file_len,
+                                      uint8_t *arena, size_t arena_len,
+                                      uint8_t *record, size_t record_len)
+{
+    enum refusal no = refusal_of(file, file_len, arena_len, record_len);
+    if (no != DONE)
+        return (struct second_fault){ no, 0, 0 };
+
+    memcpy(record, file + IMAGE_RECORD, RECORD_BYTES);
+    memcpy(arena, file + IMAGE_ARENA, arena_len);
+    return second_audit(arena, arena_len, record, record_len);
+}
