@@ -17,6 +17,12 @@
 #define ARENA_BYTES 2048
 #define STEP 128 /* samples */
 
+/*
+ * The heap's key, drawn once at random for this program. Firmware with a source
+ * of random numbers may draw one at each start instead; no answer differs.
+ */
+#define KEY 0x5ec3980f71bda246u
+
 static _Alignas(16) uint8_t arena[ARENA_BYTES];
 static uint8_t record[HEAP_RECORD_BYTES];
 static const uint16_t probe[] = { 701, 702, 703, 704 };
@@ -77,7 +83,7 @@ int main(void)
 {
     struct curve c = { HEAP_NULL, 0, 0, 0 };
 
-    heap_open(arena, sizeof arena, record, sizeof record);
+    heap_open(arena, sizeof arena, record, sizeof record, KEY);
     curve_room(&c, STEP); /* of null: a grant */
     struct heap_answer table =
         heap_grant(arena, sizeof arena, record, sizeof record, sizeof probe);

@@ -16,6 +16,13 @@
 #define CURVES 16
 #define PROBES 4
 
+/*
+ * The heap's key: drawn once, at random, for this product, and then kept. It
+ * has no pattern, and as tenths of a degree, as text or as an offset it would
+ * be none that this logger ever stores. Another product draws its own.
+ */
+#define KEY 0xb7d1f4936ac8e52du
+
 static _Alignas(16) uint8_t arena[ARENA_BYTES];
 static uint8_t record[HEAP_RECORD_BYTES];
 
@@ -229,7 +236,7 @@ int main(void)
     uint32_t curve[CURVES];
 
     struct heap_answer a =
-        heap_open(arena, sizeof arena, record, sizeof record);
+        heap_open(arena, sizeof arena, record, sizeof record, KEY);
     printf("open of %u bytes: %u (%s)\n", (unsigned)sizeof arena,
            (unsigned)a.no, refusal[a.no]);
     uint32_t table = probe_table();
@@ -253,7 +260,7 @@ int main(void)
     memset(at(table, 0) - 8, 0xff, 8);
     print_audit();
     print_release(table);
-    a = heap_open(arena, sizeof arena, record, sizeof record);
+    a = heap_open(arena, sizeof arena, record, sizeof record, KEY);
     printf("open again: %u (%s)\n", (unsigned)a.no, refusal[a.no]);
     print_audit();
     return 0;

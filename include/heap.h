@@ -9,12 +9,14 @@
  *     static _Alignas(16) uint8_t arena[49152];
  *     static uint8_t record[HEAP_RECORD_BYTES];
  *
- *     heap_open(arena, sizeof arena, record, sizeof record);
+ *     heap_open(arena, sizeof arena, record, sizeof record, KEY);
  *     struct heap_answer a =
  *         heap_grant(arena, sizeof arena, record, sizeof record, 600);
  *     if (a.no == HEAP_DONE)
  *         memset(arena + a.mem, 0, a.usable);
  *     heap_release(arena, sizeof arena, record, sizeof record, a.mem);
+ *
+ * KEY is a number of the firmware's own; THE KEY, below, says which to take.
  *
  *
  * MEM
@@ -31,7 +33,7 @@
  * the caller; every other byte of the arena, and the whole record, belong to
  * the library from heap_open on. A block's first contents are whatever its
  * bytes held before, and so are those of the bytes by which a resized block
- * has grown: nothing is cleared.
+ * has grown: nothing is cleared, but for the word where the key stood (below).
  *
  *
  * WHAT THE CALLER OWES
@@ -59,7 +61,7 @@
  *
  *   no  given by                when
  *    1  every call              arena_len is not a multiple of 16 from 32 to
- *                               262,144, or record_len is not 1,572; no byte
+ *                               262,144, or record_len is not 1,580; no byte
  *                               of the buffers is looked at
  *    2  grant, resize           n is above 262,144
  *    3  grant, release, resize, the heap is not sound: heap_audit says where
@@ -78,7 +80,7 @@
  *
  *   call             no      arena after it            record after it
  *   open             0       bytes 8 to 15 written     written anew
- *   open             1       as it was                 if record_len is 1,572:
+ *   open             1       as it was                 if record_len is 1,580:
  *                                                      closed (below);
  *                                                      else as it was
  *   grant            0       changed (below)           changed
@@ -96,18 +98,19 @@
  *   joining          1, 3    as it was                 as it was
  *   audit            any     as it was                 as it was
  *   write_image      any     as it was                 as it was
- *   read_image       0       the file's                the file's
+ *   read_image       0       the file's; of version 1  the file's; of version
+ *                            also keys (below)         1 with the key 0
  *   read_image       6, 7, 1 as it was                 as it was
  *
  * The file that heap_read_image reads is as it was; that of heap_write_image is
  * the image with 0, and as it was with 1.
  *
  * "As it was" holds for every single byte. A call that changes the arena
- * writes headers, links and free memory only: no usable byte of a block that
- * is live before and after the call changes, whatever the call and whatever
- * its answer. A block that is resized keeps so the first of its usable bytes,
- * wherever it is then: as many as it has both before and after. Bytes 0 to 7 of
- * the arena are never written.
+ * writes headers, links, keys and free memory only: no usable byte of a block
+ * that is live before and after the call changes, whatever the call and
+ * whatever its answer. A block that is resized keeps so the first of its usable
+ * bytes, wherever it is then: as many as it has both before and after. Bytes 0
+ * to 7 of the arena are never written.
  *
  * A grant or a resize refused with 5 has already sorted free chunks into their
  * bins and joined those of the fast lists, and leaves that done. The cache
@@ -115,30 +118,59 @@
  * that was to be resized is live at its mem, with its usable bytes. The same
  * resize made again may succeed, by what was joined behind the block.
  *
- * A closed record says: length 0, every count 0, every other word all ones. On
- * an arena of an allowed length every later grant, release, resize, emptying
- * and joining then answers 3, but for a grant or a resize of more than 262,144
- * bytes, which answers 2, as on every heap; audit names the record.
+ * A closed record says: length 0, every count 0, the key 0, every other word
+ * all ones. On an arena of an allowed length every later grant, release,
+ * resize, emptying and joining then answers 3, but for a grant or a resize of
+ * more than 262,144 bytes, which answers 2, as on every heap; audit names the
+ * record.
  *
  *
  * THE RECORD
  *
- * 1,572 bytes, which are 393 little-endian 32-bit words: arena length, top,
- * last remainder, 64 cache heads, 64 cache counts, 10 fast heads, then first
- * and last chunk of bins 1 to 126. All ones mean none. Together with the
- * arena's bytes they are the heap: both may be stored, and moved to any other
- * address, and used there. A copy of one without the other is of no use.
+ * 1,580 bytes, all numbers little-endian: 393 words of 32 bits, which are arena
+ * length, top, last remainder, 64 cache heads, 64 cache counts, 10 fast heads,
+ * then first and last chunk of bins 1 to 126, all ones meaning none; and the
+ * key, a number of 64 bits, in bytes 1,572 to 1,579. Together with the arena's
+ * bytes they are the heap: both may be stored, and moved to any other address,
+ * and used there. A copy of one without the other is of no use.
+ *
+ *
+ * THE KEY
+ *
+ * A released block that is kept in the cache (see heap_emptying) has the key in
+ * its second word, bytes 8 to 15 from its mem on; when it is taken from there,
+ * by a grant, a resize or an emptying, the word becomes 0. So a holder who goes
+ * on writing to a block after its release is found by the next call, as long as
+ * the block sits in the cache and what is written there is not the key: the
+ * heap is then not sound, and audit names the cache list.
+ *
+ * Any number is a key, and no answer depends on which one it is. Take one that
+ * the firmware's data and texts are unlikely to hold: a constant with no
+ * pattern in it, drawn once for each product, or a random number at each start.
+ * 0 is allowed but weak: memory that was cleared holds it everywhere, and so
+ * does the word of a block just taken. The key is no secret, as it stands in
+ * the record and in the arena; it finds mistakes, not attacks. Nothing else
+ * ever changes it: a heap keeps its key until it is opened again, or another
+ * is read in.
  *
  *
  * THE IMAGE
  *
- * A heap in a file: the mark HPI (bytes 0 to 2), the version 1 (3 and 4), the
- * arena's length (5 to 8), the record (1,572 bytes from 9 on), the arena (from
- * 1,581 on), and nothing behind it. Numbers are little-endian. A heap that is
+ * A heap in a file: the mark HPI (bytes 0 to 2), the version 2 (3 and 4), the
+ * arena's length (5 to 8), the record (1,580 bytes from 9 on), the arena (from
+ * 1,589 on), and nothing behind it. Numbers are little-endian. A heap that is
  * not sound is written like any other, and read back byte for byte with the
  * same audit: so a stuck logger's heap can be sent home and looked at there
  * (./heapimage). A heap that is read in and sound answers every later call as
  * the one that was written.
+ *
+ * Images of version 1, from before there was a key, are read as well: the
+ * version is 1, the record has 1,572 bytes, and the arena stands at 1,581. The
+ * buffer for the record has 1,580 bytes all the same. The key is then 0, the
+ * answer is that of an audit which asks no chunk for it, and if that says
+ * sound, 0 is written in the second word of every cached chunk, so that later
+ * calls find the heap sound too. One that is not sound is copied and nothing
+ * more; the next call may then find cached chunks without the key as well.
  *
  *
  * SOUND AND NOT SOUND
@@ -161,12 +193,12 @@
  * or more, the top included, also joins the chunks of the fast lists, as some
  * grants and every joining do; so does a resize, or an emptying, with what it
  * releases. Give a call of grant, release, resize, emptying, joining, audit or
- * read_image HEAP_STACK_BYTES of stack. The most that was measured is 23,681,
- * by a resize, and 21,985 by any other, over 600 random heaps and three where
+ * read_image HEAP_STACK_BYTES of stack. The most that was measured is 23,705,
+ * by a resize, and 22,025 by any other, over 600 random heaps and three where
  * a release, a resize and an emptying join the fast lists, of which 20,000 are
- * marks, one for each 16 bytes of an arena in four sizes of array, and 1,572
+ * marks, one for each 16 bytes of an arena in four sizes of array, and 1,580
  * the record's words, which a resize that is a grant or a release has twice.
- * heap_open and heap_write_image need no marks; the most measured is 632. An
+ * heap_open and heap_write_image need no marks; the most measured is 648. An
  * image is written or read in time in proportion to the arena's length. No call
  * is recursive, none takes memory from elsewhere, and none calls back.
  *
@@ -183,9 +215,12 @@ extern "C" {
 #endif
 
 /* The record's size in bytes; no other is accepted. */
-#define HEAP_RECORD_BYTES 1572
+#define HEAP_RECORD_BYTES 1580
 
-/* The size in bytes of the image of a heap whose arena has arena_len bytes. */
+/*
+ * The size in bytes of the image, as it is written, of a heap whose arena has
+ * arena_len bytes. One of version 1 has 8 bytes less.
+ */
 #define HEAP_IMAGE_BYTES(arena_len) (9 + HEAP_RECORD_BYTES + (arena_len))
 
 /* The stack to give a call. */
@@ -226,7 +261,8 @@ enum heap_kind {
     HEAP_FAULT_RECORD = 1, /* 0: the record's length is not the arena's */
     HEAP_FAULT_TILE = 2,   /* offset of a chunk with a wrong size word, or of
                               the last chunk if it is not the record's top */
-    HEAP_FAULT_CACHE = 3,  /* the cache list, 0 to 63 */
+    HEAP_FAULT_CACHE = 3,  /* the cache list, 0 to 63: also for a key that is
+                              not the record's */
     HEAP_FAULT_FAST = 4,   /* the fast list, 0 to 9 */
     HEAP_FAULT_BIN = 5,    /* the bin, 1 to 126 */
     HEAP_FAULT_FLAG = 6    /* offset of a chunk that says something wrong of
@@ -241,10 +277,12 @@ struct heap_fault {
 
 /*
  * Makes a heap without blocks of the two buffers, whatever they hold. On a
- * heap in use it forgets all blocks. Refused with 1.
+ * heap in use it forgets all blocks. The heap has the key from then on; any
+ * number will do, and THE KEY, above, says which to take. Refused with 1.
  */
 struct heap_answer heap_open(uint8_t *arena, size_t arena_len,
-                             uint8_t *record, size_t record_len);
+                             uint8_t *record, size_t record_len,
+                             uint64_t key);
 
 /*
  * Grants a block of at least n usable bytes; n may be 0. The block was not
@@ -309,8 +347,8 @@ struct heap_fault heap_audit(const uint8_t *arena, size_t arena_len,
                              const uint8_t *record, size_t record_len);
 
 /*
- * Writes the heap's image, whether the heap is sound or not. Refused with 1, if
- * arena or record has no allowed length, or file_len is not
+ * Writes the heap's image, of version 2, whether the heap is sound or not.
+ * Refused with 1, if arena or record has no allowed length, or file_len is not
  * HEAP_IMAGE_BYTES(arena_len); then nothing is written.
  */
 struct heap_answer heap_write_image(const uint8_t *arena, size_t arena_len,
@@ -318,11 +356,13 @@ struct heap_answer heap_write_image(const uint8_t *arena, size_t arena_len,
                                     uint8_t *file, size_t file_len);
 
 /*
- * Reads an image: arena and record are then those that were written, and the
- * answer is what heap_audit says of them. Refused with 6, 7 or 1, in that
+ * Reads an image of version 2: arena and record are then those that were
+ * written, and the answer is what heap_audit says of them. Or one of version 1:
+ * THE IMAGE, above, says what becomes of it. Refused with 6, 7 or 1, in that
  * order; then nothing is written. 1: file_len is under 9; the length in the
- * file is no allowed arena length; file_len is not the image's of that length;
- * arena_len is another length; record_len is not HEAP_RECORD_BYTES.
+ * file is no allowed arena length; file_len is not the image's of that version
+ * and length; arena_len is another length; record_len is not
+ * HEAP_RECORD_BYTES.
  */
 struct heap_fault heap_read_image(const uint8_t *file, size_t file_len,
                                   uint8_t *arena, size_t arena_len,

@@ -122,9 +122,14 @@ bool same_record(const struct lent *a, const struct lent *b)
     return memcmp(a->record, b->record, PLAIN_RECORD_BYTES) == 0;
 }
 
-struct second_answer lent_open(struct lent *l)
+bool same_but_key(const struct lent *a, const struct lent *b)
 {
-    return second_open(l->arena, l->length, l->record, l->record_len);
+    return memcmp(a->record, b->record, 4 * PLAIN_WORDS) == 0;
+}
+
+struct second_answer lent_open(struct lent *l, uint64_t key)
+{
+    return second_open(l->arena, l->length, l->record, l->record_len, key);
 }
 
 struct second_answer lent_grant(struct lent *l, uint64_t n)
@@ -156,6 +161,12 @@ struct second_answer lent_joining(struct lent *l)
 struct second_fault lent_audit(const struct lent *l)
 {
     return second_audit(l->arena, l->length, l->record, l->record_len);
+}
+
+struct second_fault lent_audit_without_keys(const struct lent *l)
+{
+    return second_audit_without_keys(l->arena, l->length, l->record,
+                                     l->record_len);
 }
 
 bool lent_sound(const struct lent *l)

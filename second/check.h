@@ -48,13 +48,16 @@ void copy_lent(struct lent *to, const struct lent *from);
 bool same_arena(const struct lent *a, const struct lent *b);
 bool same_record(const struct lent *a, const struct lent *b);
 
-struct second_answer lent_open(struct lent *l);
+bool same_but_key(const struct lent *a, const struct lent *b); /* records */
+
+struct second_answer lent_open(struct lent *l, uint64_t key);
 struct second_answer lent_grant(struct lent *l, uint64_t n);
 struct second_answer lent_release(struct lent *l, uint64_t mem);
 struct second_answer lent_resize(struct lent *l, uint64_t mem, uint64_t n);
 struct second_answer lent_emptying(struct lent *l);
 struct second_answer lent_joining(struct lent *l);
 struct second_fault lent_audit(const struct lent *l);
+struct second_fault lent_audit_without_keys(const struct lent *l);
 bool lent_sound(const struct lent *l);
 
 #endif

@@ -9,6 +9,12 @@
  * that mean something and the links of every binned chunk are compared as
  * well, after a resize also the bytes that the block had from its holder.
  *
+ * glibc since 2.29 has a key too, by now a random number. It is read off a
+ * chunk that glibc has cached, and the second program's arena is opened with
+ * it: then the second word of every cached chunk is compared, and that of each
+ * chunk granted out of the cache or whole out of a bin. An older glibc has no
+ * key, and these words are left out.
+ *
  * The address space is then closed, so that glibc refuses where the second
  * program refuses with 5, instead of asking the system for more.
  */
@@ -71,6 +77,7 @@ struct report {
     uint64_t grants, releases, refusals;
     uint64_t resizes, moved, resizes_refused;
     uint64_t grown; /* sequences ended by a grown top */
+    uint64_t keys, zeros, links; /* second words that agreed */
     uint64_t reached[SECOND_PLACE_COUNT];
     bool failed;
     uint64_t seed;
@@ -84,6 +91,8 @@ struct duel {
     struct sizes sizes;
     uintptr_t base;
     uint32_t length;
+    uint64_t key; /* glibc's */
+    bool keyed;   /* it has one */
     struct pair pair[SLOTS];
     uint32_t pairs;
     uint32_t call;
@@ -147,6 +156,21 @@ static void same_chunk(struct duel *d, uint32_t c, uint32_t size)
                  plain_get(arena + c + offset, 8), their_link(d, c, offset));
 }
 
+/* Every chunk cached here has the key here and there. */
+static void same_keys(struct duel *d)
+{
+    for (unsigned k = 0; k < 64 && d->keyed && !d->over; k++) {
+        uint32_t c = plain_word(record, plain_cache_head(k));
+        for (; c != PLAIN_NONE32 && !d->over; d->report->keys++) {
+            if (plain_get(arena + c + 24, 8) != d->key
+                || their_field(d, c, 24) != d->key)
+                fail(d, "key", plain_get(arena + c + 24, 8),
+                     their_field(d, c, 24));
+            c = (uint32_t)plain_get(arena + c + 16, 8);
+        }
+    }
+}
+
 static void same_heap(struct duel *d)
 {
     for (uint32_t c = 0; c < d->length && !d->over;) {
@@ -154,6 +178,33 @@ static void same_heap(struct duel *d)
         same_chunk(d, c, size);
         c += size;
     }
+    same_keys(d);
+}
+
+/* ---- what a granted block holds in its second word ---- */
+
+static struct plain_view before; /* the call */
+
+/*
+ * The chunk was cached or binned before the call, and is granted whole: the
+ * word is 0 in both, or its old back link. What stands in any other may be
+ * left over from glibc's own words, of which the second program has none.
+ */
+static void same_second_word(struct duel *d, uint32_t c, uint32_t size)
+{
+    uint64_t mine = plain_get(arena + c + 24, 8);
+    const struct plain_tile *t = before.tile;
+
+    while (t < before.tile + before.tiles && t->at != c)
+        t++;
+    if (!d->keyed || t == before.tile + before.tiles || t->size != size
+        || (t->state != PLAIN_CACHED && t->state != PLAIN_BINNED))
+        return;
+    bool zero = their_field(d, c, 24) == 0;
+    uint64_t theirs = zero ? 0 : their_link(d, c, 24);
+    *(zero ? &d->report->zeros : &d->report->links) += 1;
+    if (mine != theirs || (t->state == PLAIN_CACHED && !zero))
+        fail(d, "second word of a granted block", mine, theirs);
 }
 
 /* ---- one call in both ---- */
@@ -195,6 +246,7 @@ static uint32_t both_grant(struct duel *d, uint64_t n)
         return 0;
     d->call++;
     bool null = random_chance(&d->r, 10);
+    plain_read(&before, arena, d->length, record);
     struct second_answer a = null
         ? second_resize(arena, d->length, record, sizeof record, 0, n)
         : second_grant(arena, d->length, record, sizeof record, n);
@@ -208,6 +260,7 @@ static uint32_t both_grant(struct duel *d, uint64_t n)
     } else {
         d->report->grants++;
         d->pair[d->pairs++] = (struct pair){ p, a.mem };
+        same_second_word(d, a.mem - 16, a.usable + 8);
     }
     same_heap(d);
     holder_writes(d, p, a.mem, a.usable);
@@ -546,6 +599,16 @@ static void run_sequence(struct duel *d, uint32_t calls)
 
 /* ---- a child's malloc made ready ---- */
 
+/* The second word of a block of glibc's while it is cached; 0 for no key. */
+static void learn_key(struct duel *d, void *p)
+{
+    uintptr_t second = (uintptr_t)p + 8;
+    memset(p, 0, 24);
+    free(p);
+    d->key = their_number(second);
+    d->keyed = d->key != 0;
+}
+
 /* Leaves glibc a top of exactly that length and notes where it starts. */
 static bool make_top(struct duel *d)
 {
@@ -555,6 +618,8 @@ static bool make_top(struct duel *d)
     char *p = malloc(24);
     if (p == NULL)
         return false;
+    learn_key(d, p);
+    p = malloc(24); /* the same again */
     uintptr_t top = (uintptr_t)p + malloc_usable_size(p) - 8;
     uint64_t size = their_number(top + 8) & ~(uint64_t)15;
     if (top + size != (uintptr_t)sbrk(0) || size < d->length + 32)
@@ -593,11 +658,11 @@ static void child(struct report *report, uint64_t seed, enum top top)
         least = 32;
     d->length = least + 16 * random_below(&d->r, (most - least) / 16 + 1);
     draw_sizes(d);
-    second_open(arena, d->length, record, sizeof record);
     if (!make_top(d)) {
         fail(d, "malloc's top could not be made as long as the arena", 0, 0);
         return;
     }
+    second_open(arena, d->length, record, sizeof record, d->key);
     close_address_space();
     if (top == SHORT_TOP)
         block_between_fast_chunks(d);
@@ -643,7 +708,8 @@ static bool tell(const char *name, const struct report *report)
                report->call, report->text);
     else
         printf("ok %s, glibc %s: %llu grants, %llu releases, %llu refusals, "
-               "%llu resizes (%llu moved, %llu refused) agree; %llu sequences "
+               "%llu resizes (%llu moved, %llu refused) agree, and so do %llu "
+               "keys, %llu words 0 and %llu old back links; %llu sequences "
                "ended early by a top that grew\n",
                name, gnu_get_libc_version(), (unsigned long long)report->grants,
                (unsigned long long)report->releases,
@@ -652,6 +718,9 @@ static bool tell(const char *name, const struct report *report)
                    + (unsigned long long)report->resizes_refused,
                (unsigned long long)report->moved,
                (unsigned long long)report->resizes_refused,
+               (unsigned long long)report->keys,
+               (unsigned long long)report->zeros,
+               (unsigned long long)report->links,
                (unsigned long long)report->grown);
     return !report->failed;
 }

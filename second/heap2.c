@@ -1,9 +1,9 @@
 /*
- * Document 01's heap, with requests (i), (vi) and (vii) of document 02. The
- * order of the file: the heap's words, the lists, joining, the numbered steps,
- * resizing, the audit, the calls. A call checks shape, then its number, then
- * the whole heap, and only then writes; from there on every offset read from
- * the arena is known to be a chunk.
+ * Document 01's heap, with requests (i), (vi), (vii) and (viii) of document 02.
+ * The order of the file: the heap's words, the lists, joining, the numbered
+ * steps, resizing, the audit, the calls. A call checks shape, then its number,
+ * then the whole heap, and only then writes; from there on every offset read
+ * from the arena is known to be a chunk.
  */
 #include "heap2.h"
 
@@ -143,9 +143,11 @@ static bool cache_has_room(const struct heap *h, uint32_t size)
         && get(h, CACHE_COUNT + cache_of(size)) < CACHE_DEPTH;
 }
 
+/* Whoever caches a chunk, or takes one from the cache, does it by these two. */
 static void cache_push(struct heap *h, unsigned k, uint32_t c)
 {
     link_put(h, c, FORWARD, get(h, CACHE_HEAD + k));
+    field_put(h->arena, c, CACHE_KEY, key_get(h->record));
     put(h, CACHE_HEAD + k, c);
     put(h, CACHE_COUNT + k, get(h, CACHE_COUNT + k) + 1);
 }
@@ -156,6 +158,7 @@ static uint32_t cache_take(struct heap *h, unsigned k)
     if (c == NONE)
         return NONE;
     put(h, CACHE_HEAD + k, link_get(h, c, FORWARD));
+    field_put(h->arena, c, CACHE_KEY, 0);
     put(h, CACHE_COUNT + k, get(h, CACHE_COUNT + k) - 1);
     return c;
 }
@@ -726,18 +729,46 @@ static bool meet(const struct heap *h, struct marks *m, uint64_t c,
     return true;
 }
 
-/* Answers whether a stack of that chunk size is good, and its length. */
-static bool audit_stack(const struct heap *h, struct marks *m, uint32_t head,
-                        uint32_t size, uint32_t most, uint32_t *length)
+/* A stack's chunk size, and how many chunks of it there may be. */
+struct stack {
+    uint32_t head, size, most;
+    const uint64_t *key; /* each must have it; null: no key is asked for */
+};
+
+/* Answers whether a stack is good, and its length. */
+static inline bool audit_stack(const struct heap *h, struct marks *m,
+                               struct stack s, uint32_t *length)
 {
-    uint64_t c = widen(head);
+    uint64_t c = widen(s.head);
     for (*length = 0; c != LINK_NONE; ++*length) {
-        if (*length == most || !meet(h, m, c, STACKED)
-            || size_of(h, (uint32_t)c) != size)
+        if (*length == s.most || !meet(h, m, c, STACKED)
+            || size_of(h, (uint32_t)c) != s.size)
+            return false;
+        if (s.key && field_get(h->arena, (uint32_t)c, CACHE_KEY) != *s.key)
             return false;
         c = field_get(h->arena, (uint32_t)c, FORWARD);
     }
     return true;
+}
+
+static inline bool audit_cache(const struct heap *h, struct marks *m,
+                               unsigned k, const uint64_t *key)
+{
+    struct stack s = { get(h, CACHE_HEAD + k), CHUNK_MIN + 16 * k, CACHE_DEPTH,
+                       key };
+    uint32_t length;
+    return audit_stack(h, m, s, &length) && length == get(h, CACHE_COUNT + k);
+}
+
+/* Lists 7 to 9 own no size, so nothing may be in them. */
+static inline bool audit_fast(const struct heap *h, struct marks *m, unsigned k)
+{
+    struct stack s = { get(h, FAST_HEAD + k), CHUNK_MIN + 16 * k, UINT32_MAX,
+                       NULL };
+    uint32_t length;
+    if (s.size > FAST_MAX)
+        s.most = 0;
+    return audit_stack(h, m, s, &length);
 }
 
 static bool audit_bin(const struct heap *h, struct marks *m, unsigned bin)
@@ -760,20 +791,16 @@ static bool audit_bin(const struct heap *h, struct marks *m, unsigned bin)
     return widen(bin_last(h, bin)) == back;
 }
 
-static struct second_fault audit_lists(const struct heap *h, struct marks *m)
+static struct second_fault audit_lists(const struct heap *h, struct marks *m,
+                                       bool keyed)
 {
-    uint32_t length;
+    uint64_t key = key_get(h->record);
     for (unsigned k = 0; k < CACHE_LISTS; k++)
-        if (!audit_stack(h, m, get(h, CACHE_HEAD + k), CHUNK_MIN + 16 * k,
-                         CACHE_DEPTH, &length)
-            || length != get(h, CACHE_COUNT + k))
+        if (!audit_cache(h, m, k, keyed ? &key : NULL))
             return fault(SECOND_CACHE, k);
-    for (unsigned k = 0; k < FAST_LISTS; k++) {
-        uint32_t size = CHUNK_MIN + 16 * k; /* lists 7 to 9 own none */
-        if (!audit_stack(h, m, get(h, FAST_HEAD + k), size,
-                         size <= FAST_MAX ? UINT32_MAX : 0, &length))
+    for (unsigned k = 0; k < FAST_LISTS; k++)
+        if (!audit_fast(h, m, k))
             return fault(SECOND_FAST, k);
-    }
     for (unsigned bin = 1; bin <= BINS; bin++)
         if (!audit_bin(h, m, bin))
             return fault(SECOND_BIN, bin);
@@ -801,13 +828,15 @@ static struct second_fault audit_flags(const struct heap *h,
     return fault(SECOND_SOUND, 0);
 }
 
-static struct second_fault audit(const struct heap *h, struct marks *m)
+/* keyed: a cached chunk without the key makes its list bad. */
+static struct second_fault audit(const struct heap *h, struct marks *m,
+                                 bool keyed)
 {
     if (get(h, ARENA_LENGTH) != h->length)
         return fault(SECOND_RECORD, 0);
     struct second_fault f = audit_tiles(h, m);
     if (f.kind == SECOND_SOUND)
-        f = audit_lists(h, m);
+        f = audit_lists(h, m, keyed);
     if (f.kind == SECOND_SOUND)
         f = audit_flags(h, m);
     return f;
@@ -815,7 +844,7 @@ static struct second_fault audit(const struct heap *h, struct marks *m)
 
 static bool sound(const struct heap *h, struct marks *m)
 {
-    return audit(h, m).kind == SECOND_SOUND;
+    return audit(h, m, true).kind == SECOND_SOUND;
 }
 
 /* ---- the calls ---- */
@@ -835,25 +864,28 @@ static bool shaped(struct heap *h, uint8_t *arena, size_t arena_len,
     return true;
 }
 
-static void record_clear(uint8_t *record, uint32_t length, uint32_t top)
+static void record_clear(uint8_t *record, uint32_t length, uint32_t top,
+                         uint64_t key)
 {
     memset(record, 0xff, RECORD_BYTES);
     word_put(record, ARENA_LENGTH, length);
     word_put(record, TOP, top);
     for (unsigned k = 0; k < CACHE_LISTS; k++)
         word_put(record, CACHE_COUNT + k, 0);
+    key_put(record, key);
 }
 
 struct second_answer second_open(uint8_t *arena, size_t arena_len,
-                                 uint8_t *record, size_t record_len)
+                                 uint8_t *record, size_t record_len,
+                                 uint64_t key)
 {
     struct heap h;
     if (!shaped(&h, arena, arena_len, record, record_len)) {
         if (record_len == RECORD_BYTES)
-            record_clear(record, 0, NONE);
+            record_clear(record, 0, NONE, 0);
         return answer(BAD_SHAPE);
     }
-    record_clear(record, h.length, 0);
+    record_clear(record, h.length, 0, key);
     size_put(&h, 0, h.length);
     return answer(GRANTED);
 }
@@ -984,8 +1016,9 @@ struct second_answer second_joining(uint8_t *arena, size_t arena_len,
     return answer(GRANTED);
 }
 
-struct second_fault second_audit(const uint8_t *arena, size_t arena_len,
-                                 const uint8_t *record, size_t record_len)
+static struct second_fault audit_lent(const uint8_t *arena, size_t arena_len,
+                                      const uint8_t *record, size_t record_len,
+                                      bool keyed)
 {
     struct heap h;
     struct marks m;
@@ -993,5 +1026,19 @@ struct second_fault second_audit(const uint8_t *arena, size_t arena_len,
     if (!shaped(&h, (uint8_t *)(uintptr_t)arena, arena_len,
                 (uint8_t *)(uintptr_t)record, record_len))
         return (struct second_fault){ BAD_SHAPE, 0, 0 };
-    return audit(&h, &m);
+    return audit(&h, &m, keyed);
+}
+
+struct second_fault second_audit(const uint8_t *arena, size_t arena_len,
+                                 const uint8_t *record, size_t record_len)
+{
+    return audit_lent(arena, arena_len, record, record_len, true);
+}
+
+struct second_fault second_audit_without_keys(const uint8_t *arena,
+                                              size_t arena_len,
+                                              const uint8_t *record,
+                                              size_t record_len)
+{
+    return audit_lent(arena, arena_len, record, record_len, false);
 }

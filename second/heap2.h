@@ -1,11 +1,11 @@
 /*
- * The second program: document 01's heap in plain C, with requests (i), (vi)
- * and (vii) of document 02, written from the documents alone, so that another
- * implementation can be held against it.
+ * The second program: document 01's heap in plain C, with requests (i), (vi),
+ * (vii) and (viii) of document 02, written from the documents alone, so that
+ * another implementation can be held against it.
  *
- * Each call works on an arena (lent bytes) and its control record (1,572
- * bytes, 393 little-endian words). The two buffers must not overlap; neither
- * needs any alignment. Nothing is kept between calls.
+ * Each call works on an arena (lent bytes) and its control record (1,580
+ * bytes: 393 little-endian words and the key). The two buffers must not
+ * overlap; neither needs any alignment. Nothing is kept between calls.
  */
 #ifndef HEAP2_H
 #define HEAP2_H
@@ -37,8 +37,10 @@ enum second_kind {
     SECOND_FLAG
 };
 
+/* The key may be any number; it then stands in every cached chunk. */
 struct second_answer second_open(uint8_t *arena, size_t arena_len,
-                                 uint8_t *record, size_t record_len);
+                                 uint8_t *record, size_t record_len,
+                                 uint64_t key);
 struct second_answer second_grant(uint8_t *arena, size_t arena_len,
                                   uint8_t *record, size_t record_len,
                                   uint64_t n);
@@ -57,5 +59,10 @@ struct second_answer second_joining(uint8_t *arena, size_t arena_len,
                                     uint8_t *record, size_t record_len);
 struct second_fault second_audit(const uint8_t *arena, size_t arena_len,
                                  const uint8_t *record, size_t record_len);
+/* The same by the rules of images of version 1: no chunk is asked its key. */
+struct second_fault second_audit_without_keys(const uint8_t *arena,
+                                              size_t arena_len,
+                                              const uint8_t *record,
+                                              size_t record_len);
 
 #endif

@@ -20,6 +20,7 @@
 #define MOST_NUMBERS 2
 #define LONGEST_LINE (1 + MOST_NUMBERS * (1 + MOST_DIGITS))
 #define OPEN_MAX 49152
+#define KEY 0 /* of every arena it opens */
 
 struct line {
     char text[LONGEST_LINE];
@@ -112,7 +113,7 @@ static struct second_answer perform(struct run *run, const struct call *call)
     case 'A':
         run->arena_len = call->number[0];
         return second_open(run->arena, run->arena_len, run->record,
-                           sizeof run->record);
+                           sizeof run->record, KEY);
     case 'G':
         return second_grant(run->arena, run->arena_len, run->record,
                             sizeof run->record, call->number[0]);
@@ -166,8 +167,8 @@ static void run_script(struct run *run)
 /* The image of the heap that the run left; no file if no arena was opened. */
 static bool save_image(const struct run *run, const char *path)
 {
-    static uint8_t file[IMAGE_ARENA + OPEN_MAX];
-    size_t length = IMAGE_ARENA + run->arena_len;
+    static uint8_t file[IMAGE_RECORD + RECORD_BYTES + OPEN_MAX];
+    size_t length = IMAGE_RECORD + RECORD_BYTES + run->arena_len;
 
     if (second_write_image(run->arena, run->arena_len, run->record,
                            sizeof run->record, file, length).no != 0)

@@ -8,8 +8,6 @@
 
 #include "layout2.h"
 
-#define VERSION 1
-
 enum refusal { DONE = 0, BAD_LENGTH = 1, BAD_MARK = 6, BAD_VERSION = 7 };
 
 static const uint8_t mark[IMAGE_VERSION - IMAGE_MARK] = { 'H', 'P', 'I' };
@@ -20,14 +18,14 @@ struct second_answer second_write_image(const uint8_t *arena, size_t arena_len,
                                         size_t file_len)
 {
     if (!arena_allowed(arena_len) || record_len != RECORD_BYTES
-        || file_len != IMAGE_ARENA + arena_len)
+        || file_len != arena_at(NEWEST) + arena_len)
         return (struct second_answer){ BAD_LENGTH, 0, 0 };
 
     memcpy(file + IMAGE_MARK, mark, sizeof mark);
-    version_put(file, VERSION);
+    version_put(file, NEWEST);
     length_put(file, (uint32_t)arena_len);
     memcpy(file + IMAGE_RECORD, record, RECORD_BYTES);
-    memcpy(file + IMAGE_ARENA, arena, arena_len);
+    memcpy(file + arena_at(NEWEST), arena, arena_len);
     return (struct second_answer){ DONE, 0, 0 };
 }
 
@@ -38,7 +36,8 @@ static bool lengths_agree(const uint8_t *file, size_t file_len,
     if (file_len < IMAGE_RECORD)
         return false;
     uint32_t length = length_get(file);
-    return arena_allowed(length) && file_len == IMAGE_ARENA + (size_t)length
+    return arena_allowed(length)
+        && file_len == arena_at(version_get(file)) + (size_t)length
         && arena_len == length && record_len == RECORD_BYTES;
 }
 
@@ -48,11 +47,33 @@ static enum refusal refusal_of(const uint8_t *file, size_t file_len,
     if (file_len < IMAGE_LENGTH
         || memcmp(file + IMAGE_MARK, mark, sizeof mark) != 0)
         return BAD_MARK;
-    if (version_get(file) != VERSION)
+    if (!version_known(version_get(file)))
         return BAD_VERSION;
     if (!lengths_agree(file, file_len, arena_len, record_len))
         return BAD_LENGTH;
     return DONE;
+}
+
+/* Of a sound heap, so that every link is one or none. */
+static void write_keys(uint8_t *arena, const uint8_t *record)
+{
+    for (unsigned k = 0; k < CACHE_LISTS; k++) {
+        uint32_t head = word_get(record, CACHE_HEAD + k);
+        uint64_t c = head == NONE ? LINK_NONE : head;
+        for (; c != LINK_NONE; c = field_get(arena, (uint32_t)c, FORWARD))
+            field_put(arena, (uint32_t)c, CACHE_KEY, key_get(record));
+    }
+}
+
+/* The heap as it stands in the file, with the key 0 where that has none. */
+static void copy_heap(const uint8_t *file, uint8_t *arena, size_t arena_len,
+                      uint8_t *record)
+{
+    uint32_t version = version_get(file);
+    memcpy(record, file + IMAGE_RECORD, record_bytes(version));
+    if (version == WITHOUT_KEYS)
+        key_put(record, 0);
+    memcpy(arena, file + arena_at(version), arena_len);
 }
 
 struct second_fault second_read_image(const uint8_t *file, size_t file_len,
@@ -63,7 +84,12 @@ struct second_fault second_read_image(const uint8_t *file, size_t file_len,
     if (no != DONE)
         return (struct second_fault){ no, 0, 0 };
 
-    memcpy(record, file + IMAGE_RECORD, RECORD_BYTES);
-    memcpy(arena, file + IMAGE_ARENA, arena_len);
-    return second_audit(arena, arena_len, record, record_len);
+    copy_heap(file, arena, arena_len, record);
+    if (version_get(file) != WITHOUT_KEYS)
+        return second_audit(arena, arena_len, record, record_len);
+    struct second_fault f =
+        second_audit_without_keys(arena, arena_len, record, record_len);
+    if (f.kind == SECOND_SOUND)
+        write_keys(arena, record);
+    return f;
 }

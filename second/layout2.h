@@ -9,7 +9,7 @@
  *   c+16 -> +------------------------------+-+  <- mem
  *           | forward link, or data          |
  *   c+24 -> +--------------------------------+
- *           | back link, or data             |
+ *           | back link, key, or data        |  the key if it is cached
  *           .                                .
  * c+size -> +--------------------------------+
  *           | this chunk's size, or data     |  usable bytes end 8 further on
@@ -23,8 +23,9 @@
 #include <stdint.h>
 #include <string.h>
 
-#define RECORD_WORDS 393
-#define RECORD_BYTES 1572
+#define RECORD_WORDS 395
+#define RECORD_BYTES 1580
+#define KEYLESS_RECORD_BYTES 1572 /* as it was before there was a key */
 #define ARENA_MIN 32
 #define ARENA_MAX 262144
 
@@ -37,7 +38,13 @@
 #define BINS 126
 #define UNSORTED 1
 
-enum field { PREVIOUS_SIZE = 0, SIZE_WORD = 8, FORWARD = 16, BACK = 24 };
+enum field {
+    PREVIOUS_SIZE = 0,
+    SIZE_WORD = 8,
+    FORWARD = 16,
+    BACK = 24,
+    CACHE_KEY = 24 /* no stack has back links */
+};
 
 enum word {
     ARENA_LENGTH = 0,
@@ -47,7 +54,9 @@ enum word {
     CACHE_COUNT = 67,
     FAST_HEAD = 131,
     BIN_FIRST = 139, /* of bin 0, which does not exist; two words a bin */
-    BIN_LAST = 140
+    BIN_LAST = 140,
+    KEY_LOW = 393,
+    KEY_HIGH = 394
 };
 
 /*
@@ -56,8 +65,8 @@ enum word {
  *      0 -> +-----+---------+--------------+
  *           | HPI | version | arena length |  3, 2 and 4 bytes
  *      9 -> +-----+---------+--------------+
- *           | record                       |
- *  1,581 -> +------------------------------+
+ *           | record                       |  version 1: without its key
+ *           +------------------------------+
  *           | arena                        |
  *           +------------------------------+
  */
@@ -65,11 +74,13 @@ enum part {
     IMAGE_MARK = 0,
     IMAGE_VERSION = 3,
     IMAGE_LENGTH = 5,
-    IMAGE_RECORD = 9,
-    IMAGE_ARENA = IMAGE_RECORD + RECORD_BYTES
+    IMAGE_RECORD = 9
 };
 
-#define IMAGE_MAX (IMAGE_ARENA + ARENA_MAX)
+/* The two versions there are; an image is written in the newest. */
+enum version { WITHOUT_KEYS = 1, WITH_KEYS = 2, NEWEST = WITH_KEYS };
+
+#define IMAGE_MAX (IMAGE_RECORD + RECORD_BYTES + ARENA_MAX)
 
 #if defined(__BYTE_ORDER__) && __BYTE_ORDER__ == __ORDER_BIG_ENDIAN__
 #define LITTLE32(x) __builtin_bswap32(x)
@@ -112,6 +123,18 @@ static inline void word_put(uint8_t *record, unsigned i, uint32_t v)
     memcpy(record + 4 * (size_t)i, &v, sizeof v);
 }
 
+static inline uint64_t key_get(const uint8_t *record)
+{
+    return word_get(record, KEY_LOW)
+        | (uint64_t)word_get(record, KEY_HIGH) << 32;
+}
+
+static inline void key_put(uint8_t *record, uint64_t key)
+{
+    word_put(record, KEY_LOW, (uint32_t)key);
+    word_put(record, KEY_HIGH, (uint32_t)(key >> 32));
+}
+
 static inline uint32_t version_get(const uint8_t *file)
 {
     return file[IMAGE_VERSION] | (uint32_t)file[IMAGE_VERSION + 1] << 8;
@@ -121,6 +144,22 @@ static inline void version_put(uint8_t *file, uint32_t version)
 {
     file[IMAGE_VERSION] = (uint8_t)version;
     file[IMAGE_VERSION + 1] = (uint8_t)(version >> 8);
+}
+
+static inline bool version_known(uint32_t version)
+{
+    return version == WITHOUT_KEYS || version == WITH_KEYS;
+}
+
+/* Of a known version: the record's bytes in the file, and where they end. */
+static inline size_t record_bytes(uint32_t version)
+{
+    return version == WITHOUT_KEYS ? KEYLESS_RECORD_BYTES : RECORD_BYTES;
+}
+
+static inline size_t arena_at(uint32_t version)
+{
+    return IMAGE_RECORD + record_bytes(version);
 }
 
 static inline uint32_t length_get(const uint8_t *file)

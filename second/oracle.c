@@ -1,7 +1,5 @@
 #include "oracle.h"
 
-#include <stdbool.h>
-
 #include "plain.h"
 
 struct set {
@@ -13,6 +11,7 @@ struct subject {
     const uint8_t *arena;
     const uint8_t *record;
     uint64_t length;
+    bool keyed;
 };
 
 /* A list of the record, as the document speaks of it. */
@@ -125,12 +124,25 @@ static bool bin_good(const struct subject *s, unsigned number)
     return widened(s, plain_bin_last(number)) == last;
 }
 
+static bool key_wrong(const struct subject *s, uint64_t c)
+{
+    return s->keyed && eight(s, c + 24) != plain_key(s->record);
+}
+
+static bool keys_good(const struct subject *s)
+{
+    for (size_t i = 0; i < members.count; i++)
+        if (key_wrong(s, members.member[i]))
+            return false;
+    return true;
+}
+
 static bool list_good(const struct subject *s, const struct list *l)
 {
     if (!read_out(s, l) || !members_good(s, l))
         return false;
     if (l->kind == SECOND_CACHE)
-        return members.count <= 7
+        return members.count <= 7 && keys_good(s)
             && plain_word(s->record, plain_cache_count(l->number))
                    == members.count;
     return l->kind == SECOND_FAST || bin_good(s, l->number);
@@ -162,9 +174,10 @@ static bool flag_good(const struct subject *s, size_t i)
 }
 
 struct second_fault oracle_audit(const uint8_t *arena, size_t length,
-                                 const uint8_t *record, size_t record_len)
+                                 const uint8_t *record, size_t record_len,
+                                 bool keyed)
 {
-    struct subject s = { arena, record, length };
+    struct subject s = { arena, record, length, keyed };
 
     if (length < 32 || length > PLAIN_ARENA_MAX || length % 16 != 0
         || record_len != PLAIN_RECORD_BYTES)
@@ -223,7 +236,7 @@ static size_t good_members(const struct subject *s, const struct list *l)
         if (c == top() || holds(&met, c) || occurs_before(i)
             || !owns(l, size_at(s, c)))
             break;
-        if (l->kind == SECOND_CACHE && i == 7)
+        if (l->kind == SECOND_CACHE && (i == 7 || key_wrong(s, c)))
             break;
         if (l->kind == SECOND_BIN && misplaced(s, l->number, i))
             break;
@@ -232,9 +245,9 @@ static size_t good_members(const struct subject *s, const struct list *l)
 }
 
 size_t oracle_reached(const uint8_t *arena, size_t length,
-                      const uint8_t *record, unsigned *list)
+                      const uint8_t *record, bool keyed, unsigned *list)
 {
-    struct subject s = { arena, record, length };
+    struct subject s = { arena, record, length, keyed };
 
     collect_tiles(&s);
     for (size_t i = 0; i < chunks.count; i++)

@@ -2,18 +2,20 @@
  * The audit once more, slow and by sets: each list is read out as a plain
  * sequence first, then every condition of document 01 is asked of it in its
  * own loop; and so what the lists reach, for heapimage. Shares no line with
- * heap2.c and show2.c.
+ * heap2.c and show2.c. Keyed says whether cached chunks are asked the key.
  */
 #ifndef ORACLE_H
 #define ORACLE_H
 
+#include <stdbool.h>
 #include <stddef.h>
 #include <stdint.h>
 
 #include "heap2.h"
 
 struct second_fault oracle_audit(const uint8_t *arena, size_t length,
-                                 const uint8_t *record, size_t record_len);
+                                 const uint8_t *record, size_t record_len,
+                                 bool keyed);
 
 /*
  * In which list each tile of a heap is whose record and tiles are sound, by
@@ -23,6 +25,6 @@ struct second_fault oracle_audit(const uint8_t *arena, size_t length,
 #define ORACLE_LIVE 200u
 #define ORACLE_TOP 201u
 size_t oracle_reached(const uint8_t *arena, size_t length,
-                      const uint8_t *record, unsigned *list);
+                      const uint8_t *record, bool keyed, unsigned *list);
 
 #endif

@@ -8,7 +8,8 @@
 #include <stdbool.h>
 #include <stdint.h>
 
-#define PLAIN_RECORD_BYTES 1572u
+#define PLAIN_RECORD_BYTES 1580u
+#define PLAIN_WORDS 393u /* of the record, before the key */
 #define PLAIN_ARENA_MAX 262144u
 #define PLAIN_TILES_MAX (PLAIN_ARENA_MAX / 32)
 #define PLAIN_NONE32 0xffffffffu
@@ -36,6 +37,16 @@ static inline uint32_t plain_word(const uint8_t *record, unsigned i)
 static inline void plain_put_word(uint8_t *record, unsigned i, uint32_t v)
 {
     plain_put(record + 4 * i, 4, v);
+}
+
+static inline uint64_t plain_key(const uint8_t *record)
+{
+    return plain_get(record + 1572, 8);
+}
+
+static inline void plain_put_key(uint8_t *record, uint64_t key)
+{
+    plain_put(record + 1572, 8, key);
 }
 
 static inline unsigned plain_cache_head(unsigned k) { return 3 + k; }

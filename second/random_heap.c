@@ -42,6 +42,17 @@ uint32_t random_length(struct random *r, uint32_t most)
     return 32 + 16 * random_below(r, (to - 32) / 16 + 1);
 }
 
+uint64_t random_key(struct random *r)
+{
+    switch (random_below(r, 8)) {
+    case 0: return 0;
+    case 1: return PLAIN_NONE64;
+    case 2: return 16 * (uint64_t)random_below(r, PLAIN_ARENA_MAX / 16);
+    case 3: return 0x0101010101010101u * random_below(r, 256);
+    default: return random_next(r);
+    }
+}
+
 /* ---- sound heaps ---- */
 
 enum home { NO_LIST = 0, FIRST_CACHE = 1, FIRST_FAST = 65, FIRST_BIN = 75 };
@@ -62,6 +73,7 @@ struct plan {
     uint32_t palette_percent; /* of the sizes come from the palette */
     uint32_t cached[64];
     uint32_t weight[5]; /* live, cache, fast, own bin, unsorted */
+    uint64_t key;
 };
 
 static uint32_t random_size(struct random *r, const struct plan *plan)
@@ -186,18 +198,43 @@ static int by_list(const void *left, const void *right)
     return a->order < b->order ? -1 : a->order > b->order;
 }
 
-static void write_list(const struct piece *piece, uint32_t count,
-                       uint8_t *arena, uint8_t *record)
+/* A word that may be taken for the key, but is none. */
+static uint64_t other_key(struct random *r, uint64_t key)
+{
+    switch (random_below(r, 5)) {
+    case 0: return key ^ ((uint64_t)1 << random_below(r, 64));
+    case 1: return key ^ (PLAIN_NONE64 << 32); /* right if it is cut */
+    case 2: return key == 0 ? PLAIN_NONE64 : 0;
+    case 3: return ~key;
+    default: return key + 1 + random_below(r, 1000);
+    }
+}
+
+static uint64_t key_of_cached(struct random *r, const struct plan *plan)
+{
+    return plan->flaw == FLAW_KEY && random_chance(r, 5)
+        ? other_key(r, plan->key) : plan->key;
+}
+
+static void write_links(struct random *r, const struct plan *plan,
+                        const struct piece *piece, uint32_t count,
+                        uint8_t *arena)
+{
+    for (uint32_t i = 0; i < count; i++) {
+        uint8_t *at = arena + piece[i].at;
+        plain_put(at + 16, 8, i + 1 < count ? piece[i + 1].at : PLAIN_NONE64);
+        if (is_bin(piece[i].list))
+            plain_put(at + 24, 8, i > 0 ? piece[i - 1].at : PLAIN_NONE64);
+        else if (piece[i].list < FIRST_FAST)
+            plain_put(at + 24, 8, key_of_cached(r, plan));
+    }
+}
+
+static void write_ends(const struct piece *piece, uint32_t count,
+                       uint8_t *record)
 {
     uint32_t list = piece[0].list;
 
-    for (uint32_t i = 0; i < count; i++) {
-        plain_put(arena + piece[i].at + 16, 8,
-                  i + 1 < count ? piece[i + 1].at : PLAIN_NONE64);
-        if (is_bin(list))
-            plain_put(arena + piece[i].at + 24, 8,
-                      i > 0 ? piece[i - 1].at : PLAIN_NONE64);
-    }
     if (is_bin(list)) {
         unsigned bin = list - FIRST_BIN + 1;
         plain_put_word(record, plain_bin_first(bin), piece[0].at);
@@ -230,12 +267,14 @@ void flawed_heap(struct random *r, enum flaw flaw, uint8_t *arena,
 
     random_bytes(r, arena, length);
     plan.flaw = flaw;
+    plan.key = random_key(r);
     plan_pieces(r, &plan, length);
     plan_lists(r, &plan);
     write_tiles(&plan, arena, length);
 
-    for (unsigned i = 0; i < 393; i++)
+    for (unsigned i = 0; i < PLAIN_WORDS; i++)
         plain_put_word(record, i, PLAIN_NONE32);
+    plain_put_key(record, plan.key);
     for (unsigned k = 0; k < 64; k++)
         plain_put_word(record, plain_cache_count(k), 0);
     plain_put_word(record, 0, length);
@@ -245,8 +284,10 @@ void flawed_heap(struct random *r, enum flaw flaw, uint8_t *arena,
         for (next = i + 1; next < plan.pieces
              && plan.piece[next].list == plan.piece[i].list; next++)
             ;
-        if (plan.piece[i].list != NO_LIST)
-            write_list(&plan.piece[i], next - i, arena, record);
+        if (plan.piece[i].list == NO_LIST)
+            continue;
+        write_links(r, &plan, &plan.piece[i], next - i, arena);
+        write_ends(&plan.piece[i], next - i, record);
     }
     plain_put_word(record, 2, random_remainder(r, &plan, record));
 }
@@ -385,7 +426,9 @@ static unsigned random_record_word(struct random *r, const uint8_t *record)
     case 0: return 0;
     case 1: return 1;
     case 2: return 2;
-    case 3: return plain_cache_count(random_below(r, 64));
+    case 3:
+        return random_chance(r, 70) ? plain_cache_count(random_below(r, 64))
+                                    : PLAIN_WORDS + random_below(r, 2);
     case 4: case 5: /* the count or last that goes with the start */
         return word < 67 ? word + 64 : word < 141 ? word : word + 1;
     default: return word;
@@ -425,6 +468,38 @@ void damage_field(struct random *r, uint8_t *arena, uint32_t length,
     default:
         plain_put_word(record, word, (uint32_t)value);
     }
+}
+
+/* The chunk at which a walk over all cached chunks has met that many more. */
+static uint32_t nth_cached(const uint8_t *arena, const uint8_t *record,
+                           uint32_t nth, unsigned *list)
+{
+    for (*list = 0; *list < 64; ++*list) {
+        uint32_t count = plain_word(record, plain_cache_count(*list));
+        if (nth >= count) {
+            nth -= count;
+            continue;
+        }
+        uint32_t at = plain_word(record, plain_cache_head(*list));
+        for (; nth > 0; nth--)
+            at = (uint32_t)plain_get(arena + at + 16, 8);
+        return at;
+    }
+    return PLAIN_NONE32;
+}
+
+unsigned damage_key(struct random *r, uint8_t *arena, const uint8_t *record)
+{
+    uint32_t cached = 0;
+    unsigned list;
+
+    for (unsigned k = 0; k < 64; k++)
+        cached += plain_word(record, plain_cache_count(k));
+    if (cached == 0)
+        return 64;
+    uint32_t at = nth_cached(arena, record, random_below(r, cached), &list);
+    plain_put(arena + at + 24, 8, other_key(r, plain_key(record)));
+    return list;
 }
 
 /* A tile of the same size, if a few draws find one, else any. */

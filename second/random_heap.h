@@ -22,7 +22,10 @@ void random_bytes(struct random *r, uint8_t *bytes, size_t length);
 /* An allowed arena length up to the one given, small ones more often. */
 uint32_t random_length(struct random *r, uint32_t most);
 
-/* Overwrites arena and record with a sound heap. */
+/* A key: now and then 0, all ones, an offset, or one with many equal bytes. */
+uint64_t random_key(struct random *r);
+
+/* Overwrites arena and record with a sound heap, which has such a key. */
 void random_heap(struct random *r, uint8_t *arena, uint32_t length,
                  uint8_t *record);
 
@@ -42,6 +45,7 @@ enum flaw {
     FLAW_TOP,        /* a binned chunk touches the top */
     FLAW_EIGHT,      /* cache lists of more than 7 */
     FLAW_HOME,       /* chunks in lists that own other sizes */
+    FLAW_KEY,        /* cached chunks with words that are not the key */
     FLAW_COUNT
 };
 
@@ -50,12 +54,18 @@ void flawed_heap(struct random *r, enum flaw flaw, uint8_t *arena,
                  uint32_t length, uint8_t *record);
 
 /*
- * Changes one field of a sound heap: a size word, a flag, a link, a head, a
- * count, a last, the length, the top or a previous size. The heap may by
- * chance stay sound.
+ * Changes one field of a sound heap: a size word, a flag, a link, a key, a
+ * head, a count, a last, the length, the top or a previous size. The heap may
+ * by chance stay sound.
  */
 void damage_field(struct random *r, uint8_t *arena, uint32_t length,
                   uint8_t *record);
+
+/*
+ * Puts another word where the key stands in one cached chunk of a sound heap.
+ * Answers its list; 64, and nothing is written, if no chunk is cached.
+ */
+unsigned damage_key(struct random *r, uint8_t *arena, const uint8_t *record);
 
 /*
  * Has links and starts of lists lead to other chunks, mostly to ones of a size

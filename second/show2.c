@@ -7,7 +7,6 @@
 #include "show2.h"
 
 #include <inttypes.h>
-#include <stdbool.h>
 
 #include "image2.h"
 #include "layout2.h"
@@ -20,6 +19,7 @@ struct heap {
     const uint8_t *arena;
     const uint8_t *record;
     uint32_t length;
+    bool keyed;
     struct second_tile *tile;
     uint32_t tiles;
     uint16_t tile_at[ARENA_MAX / 16]; /* 1 + its index, or 0 for no chunk */
@@ -104,6 +104,11 @@ static bool linked_back(const struct heap *h, const struct second_tile *t,
         == (before == NULL ? LINK_NONE : before->offset);
 }
 
+static bool has_key(const struct heap *h, const struct second_tile *t)
+{
+    return field_get(h->arena, t->offset, CACHE_KEY) == key_get(h->record);
+}
+
 /* What may stand in the list behind that many, of which before is the last. */
 static bool good(const struct heap *h, const struct list *l, uint32_t count,
                  const struct second_tile *before, const struct second_tile *t)
@@ -111,7 +116,7 @@ static bool good(const struct heap *h, const struct list *l, uint32_t count,
     if (t->state != SECOND_IS_LIVE || !owns(l, t->size))
         return false;
     if (l->state == SECOND_IS_CACHED)
-        return count < CACHE_DEPTH;
+        return count < CACHE_DEPTH && (!h->keyed || has_key(h, t));
     if (l->state == SECOND_IS_FAST)
         return true;
     return linked_back(h, t, before)
@@ -136,13 +141,15 @@ static void walk(struct heap *h, const struct list *l)
 }
 
 uint32_t second_tiles(const uint8_t *arena, uint32_t length,
-                      const uint8_t *record, struct second_tile *tile)
+                      const uint8_t *record, bool keyed,
+                      struct second_tile *tile)
 {
     static struct heap h;
 
     h.arena = arena;
     h.record = record;
     h.length = length;
+    h.keyed = keyed;
     h.tile = tile;
     lay_out(&h);
     for (unsigned i = 0; i < CACHE_LISTS + FAST_LISTS + BINS; i++) {
@@ -178,15 +185,21 @@ static void print_tile(FILE *out, const struct second_tile *t)
     putc('\n', out);
 }
 
+/* As much arena as the file has; 0 if it has none, or too much for any. */
+static size_t arena_length(const uint8_t *file, size_t file_len)
+{
+    if (file_len < IMAGE_RECORD || !version_known(version_get(file)))
+        return 0;
+    size_t at = arena_at(version_get(file));
+    return file_len < at || file_len - at > ARENA_MAX ? 0 : file_len - at;
+}
+
 void second_show_image(FILE *out, const uint8_t *file, size_t file_len)
 {
     static uint8_t arena[ARENA_MAX], record[RECORD_BYTES];
     static struct second_tile tile[SECOND_TILES_MAX];
 
-    /* As much arena as the file has, if that much is lent at all. */
-    size_t length = file_len < IMAGE_ARENA ? 0 : file_len - IMAGE_ARENA;
-    if (length > sizeof arena)
-        length = 0;
+    size_t length = arena_length(file, file_len);
     struct second_fault f = second_read_image(file, file_len, arena, length,
                                               record, sizeof record);
     if (f.no != 0) {
@@ -197,7 +210,9 @@ void second_show_image(FILE *out, const uint8_t *file, size_t file_len)
     print_fault(out, f);
     if (f.kind == SECOND_RECORD || f.kind == SECOND_TILE)
         return;
-    uint32_t tiles = second_tiles(arena, (uint32_t)length, record, tile);
+    bool keyed = version_get(file) != WITHOUT_KEYS;
+    uint32_t tiles =
+        second_tiles(arena, (uint32_t)length, record, keyed, tile);
     for (uint32_t i = 0; i < tiles; i++)
         print_tile(out, &tile[i]);
 }

@@ -5,6 +5,7 @@
 #ifndef SHOW2_H
 #define SHOW2_H
 
+#include <stdbool.h>
 #include <stddef.h>
 #include <stdint.h>
 #include <stdio.h>
@@ -31,9 +32,12 @@ struct second_tile {
  * Tells the tiles of a heap whose record and tiles are sound, by rising
  * offset, and answers how many there are. Each list is walked up to its first
  * bad chunk; what is reached so is in that list, all else but the top is live.
+ * With keyed a cached chunk without the record's key is bad: so it is in
+ * images of version 2.
  */
 uint32_t second_tiles(const uint8_t *arena, uint32_t length,
-                      const uint8_t *record, struct second_tile *tile);
+                      const uint8_t *record, bool keyed,
+                      struct second_tile *tile);
 
 /* Prints what heapimage prints of a file of that many bytes. */
 void second_show_image(FILE *out, const uint8_t *file, size_t file_len);

@@ -1,6 +1,7 @@
 /*
- * The audit against the slow one of oracle.c, place included, and what the
- * calls do on heaps that are not sound: answer 3 and write nothing.
+ * The audit against the slow one of oracle.c, place included, by the rules of
+ * today and by those of images of version 1; and what the calls do on heaps
+ * that are not sound: answer 3 and write nothing.
  */
 #include <string.h>
 
@@ -28,16 +29,26 @@ static bool same_fault(struct second_fault a, struct second_fault b)
     return a.no == b.no && a.kind == b.kind && a.number == b.number;
 }
 
+static struct second_fault audit_by(struct lent *l, bool keyed, uint64_t seed)
+{
+    struct second_fault mine =
+        keyed ? lent_audit(l) : lent_audit_without_keys(l);
+    struct second_fault slow =
+        oracle_audit(l->arena, l->length, l->record, l->record_len, keyed);
+    CHECK(same_fault(mine, slow),
+          "seed %llu: audit %s keys says %u %u %u, the slow one %u %u %u",
+          (unsigned long long)seed, keyed ? "with" : "without", mine.no,
+          mine.kind, mine.number, slow.no, slow.kind, slow.number);
+    return mine;
+}
+
+/* Without keys the slow one is asked of every fourth heap only. */
 static struct second_fault audit_checked(struct lent *l, uint64_t seed)
 {
-    struct second_fault mine = lent_audit(l);
-    struct second_fault slow =
-        oracle_audit(l->arena, l->length, l->record, l->record_len);
-    CHECK(same_fault(mine, slow),
-          "seed %llu: audit says %u %u %u, the slow one %u %u %u",
-          (unsigned long long)seed, mine.no, mine.kind, mine.number, slow.no,
-          slow.kind, slow.number);
-    return mine;
+    struct second_fault f = audit_by(l, true, seed);
+    if (seed % 4 == 0)
+        audit_by(l, false, seed);
+    return f;
 }
 
 static void sound_heaps(uint32_t rounds)
@@ -90,6 +101,65 @@ static void damaged_heaps(const char *name, damage *harm, uint64_t seeds,
                k);
         CHECK(kinds[k] > 0, "no heap with a fault of kind %u was met", k);
     }
+}
+
+static bool names(struct second_fault f, enum second_kind kind, unsigned number)
+{
+    return f.no == 0 && f.kind == kind && f.number == number;
+}
+
+/* The lowest cache list that holds a chunk, or 64. */
+static unsigned first_cached(const struct lent *l)
+{
+    unsigned k = 0;
+    while (k < 64 && plain_word(l->record, plain_cache_count(k)) == 0)
+        k++;
+    return k;
+}
+
+/* The record's key is another than that of the cached chunks. */
+static void with_an_old_key(struct random *r, struct lent *l, uint64_t seed)
+{
+    uint64_t key = plain_key(l->record);
+    unsigned first = first_cached(l);
+
+    plain_put_key(l->record, key ^ (1 + random_next(r) / 2));
+    CHECK(first == 64 ? names(audit_by(l, true, seed), SECOND_SOUND, 0)
+                      : names(audit_by(l, true, seed), SECOND_CACHE, first),
+          "seed %llu: another key in the record does not name list %u",
+          (unsigned long long)seed, first);
+    CHECK(names(audit_by(l, false, seed), SECOND_SOUND, 0),
+          "seed %llu: the key is asked of version 1", (unsigned long long)seed);
+    plain_put_key(l->record, key);
+}
+
+static void wrong_keys(uint32_t rounds)
+{
+    uint64_t lists[64] = { 0 }, sound = 0, seeds = 1u << 23;
+
+    group("a wrong key in one cached chunk names its list, and only with keys");
+    for (uint64_t i = 1; i <= rounds && !group_failed(); i++) {
+        struct random r = { seeds + i };
+        struct lent l = lend(random_test_length(&r), 0);
+        random_heap(&r, l.arena, (uint32_t)l.length, l.record);
+        with_an_old_key(&r, &l, seeds + i);
+        unsigned k = damage_key(&r, l.arena, l.record);
+        if (k < 64) {
+            lists[k]++;
+            CHECK(names(audit_by(&l, true, seeds + i), SECOND_CACHE, k),
+                  "seed %llu: not the fault of cache list %u",
+                  (unsigned long long)(seeds + i), k);
+        } else {
+            sound++;
+        }
+        CHECK(names(audit_by(&l, false, seeds + i), SECOND_SOUND, 0),
+              "seed %llu: a fault of version 1", (unsigned long long)i);
+        give_back(&l);
+    }
+    remark(", %llu heaps without a cached chunk", (unsigned long long)sound);
+    for (unsigned k = 0; k < 64; k++)
+        CHECK(lists[k] > 0 || rounds < 10000, "cache list %u was never named",
+              k);
 }
 
 /* One rule broken in a heap that is otherwise in order. */
@@ -182,7 +252,8 @@ static void any_bytes(uint32_t rounds)
         random_bytes(&r, l.arena, l.length);
         random_bytes(&r, l.record, l.record_len);
         if (random_chance(&r, 50))
-            l.record_len = random_below(&r, PLAIN_RECORD_BYTES + 1);
+            l.record_len = random_chance(&r, 10)
+                ? 1572 : random_below(&r, PLAIN_RECORD_BYTES + 1);
         bool shaped = l.length >= 32 && l.length % 16 == 0
             && l.record_len == PLAIN_RECORD_BYTES;
         if (shaped && random_chance(&r, 70))
@@ -219,6 +290,7 @@ int main(int argc, char **argv)
     damaged_heaps("heaps with random bytes: audit and slow audit agree",
                   damage_bytes, 1u << 21, 50000 / share);
     flawed_heaps(20000 / share);
+    wrong_keys(12000 / share);
     calls_on_unsound(40000 / share);
     any_bytes(40000 / share);
     return finish();

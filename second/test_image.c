@@ -1,8 +1,8 @@
 /*
  * Images: the bytes of small ones, each refusal and the order of them, round
- * trips of random heaps; and what heapimage prints of heaps, sound ones and
- * ones damaged by hand. Every expected byte, number and line here was worked
- * out by hand from the documents.
+ * trips of random heaps, of both versions; and what heapimage prints of heaps,
+ * sound ones and ones damaged by hand. Every expected byte, number and line
+ * here was worked out by hand from the documents.
  */
 #include <stdlib.h>
 #include <string.h>
@@ -15,7 +15,12 @@
 #include "traces.h"
 
 #define HEADER 9u
-#define ARENA_AT (HEADER + PLAIN_RECORD_BYTES)
+
+/* Where the arena begins in an image of version 1, which has no key, and 2. */
+static size_t arena_in(unsigned version)
+{
+    return version == 1 ? 1581 : 1589;
+}
 
 /* Bytes lent to the calls: exactly that many, so that a sanitizer sees. */
 struct bytes {
@@ -52,12 +57,26 @@ static bool all_are(const struct bytes *b, uint8_t fill)
 /* The image of a heap of good shape. */
 static struct bytes image_of(const struct lent *l)
 {
-    struct bytes file = filled(ARENA_AT + l->length, 0x5a);
+    struct bytes file = filled(arena_in(2) + l->length, 0x5a);
     struct second_answer a = second_write_image(
         l->arena, l->length, l->record, l->record_len, file.at, file.length);
     CHECK(a.no == 0 && a.mem == 0 && a.usable == 0,
           "an image of %zu bytes is answered %u %u %u, not 0 0 0", l->length,
           a.no, a.mem, a.usable);
+    return file;
+}
+
+/* The same put together here, in either version. */
+static struct bytes image_by_hand(const struct lent *l, unsigned version)
+{
+    size_t at = arena_in(version);
+    struct bytes file = filled(at + l->length, 0x5a);
+
+    memcpy(file.at, "HPI", 3);
+    plain_put(file.at + 3, 2, version);
+    plain_put(file.at + 5, 4, l->length);
+    memcpy(file.at + HEADER, l->record, at - HEADER);
+    memcpy(file.at + at, l->arena, l->length);
     return file;
 }
 
@@ -69,22 +88,24 @@ static uint8_t opened_record_byte(unsigned i)
     unsigned word = i / 4;
     if (word == 0)
         return i == 0 ? 32 : 0;
+    if (i >= 1572)
+        return (uint8_t)(KEY >> 8 * (i - 1572));
     return word == 1 || (word >= 67 && word < 131) ? 0 : 0xff;
 }
 
 static void smallest_image(void)
 {
-    static const uint8_t header[HEADER] = { 0x48, 0x50, 0x49, 1, 0,
+    static const uint8_t header[HEADER] = { 0x48, 0x50, 0x49, 2, 0,
                                             32,   0,    0,    0 };
 
     group("image: every byte of a newly opened arena of 32 bytes");
     start(32);
     struct bytes file = image_of(&heap);
-    CHECK(file.length == 1613, "the image has %zu bytes", file.length);
+    CHECK(file.length == 1621, "the image has %zu bytes", file.length);
     for (unsigned i = 0; i < file.length; i++) {
-        unsigned at = i - ARENA_AT; /* in the arena, filled with 0xa5 */
+        unsigned at = i - 1589; /* in the arena, filled with 0xa5 */
         uint8_t expected = i < HEADER ? header[i]
-            : i < ARENA_AT            ? opened_record_byte(i - HEADER)
+            : i < 1589                ? opened_record_byte(i - HEADER)
             : at == 8                 ? 33
             : at > 8 && at < 16       ? 0
                                       : 0xa5;
@@ -114,11 +135,11 @@ static void larger_images(void)
         random_bytes(&r, l.arena, l.length);
         random_bytes(&r, l.record, l.record_len);
         struct bytes file = image_of(&l);
-        CHECK(memcmp(file.at, "HPI\1\0", 5) == 0, "another mark or version");
+        CHECK(memcmp(file.at, "HPI\2\0", 5) == 0, "another mark or version");
         CHECK(memcmp(file.at + 5, arena[i].field, 4) == 0,
               "another length field for %u", arena[i].length);
-        CHECK(memcmp(file.at + 9, l.record, 1572) == 0
-                  && memcmp(file.at + 1581, l.arena, l.length) == 0,
+        CHECK(memcmp(file.at + 9, l.record, 1580) == 0
+                  && memcmp(file.at + 1589, l.arena, l.length) == 0,
               "record or arena stand elsewhere in an image of %u",
               arena[i].length);
         free(file.at);
@@ -150,26 +171,27 @@ static void refused_writes(void)
     static const size_t bad[] = { 0, 1, 15, 16, 17, 31, 33, 40, 100, 262143,
                                   262145, 262152, 262160, 524288 };
     static const size_t good[] = { 32, 48, 256, 4096, 262144 };
-    static const int off[] = { -16, -1, 1, 16, -1581, -1572, -32, -9, 8, 9,
+    static const int off[] = { -16, -8, -1, 1, 8, 16, -1589, -1580, -32, -9, 9,
                                32 };
 
     group("image: writing is refused with 1 for a length, and writes nothing");
     for (unsigned i = 0; i < sizeof bad / sizeof bad[0]; i++)
-        refuses_writing(bad[i], 1572, 1581 + bad[i]);
+        refuses_writing(bad[i], 1580, 1589 + bad[i]);
     for (unsigned i = 0; i < sizeof good / sizeof good[0]; i++) {
-        size_t full = 1581 + good[i];
+        size_t full = 1589 + good[i];
         for (unsigned k = 0; k < sizeof off / sizeof off[0]; k++)
-            refuses_writing(good[i], 1572, full + (size_t)off[k]);
-        for (unsigned k = 0; k < 4; k++)
-            refuses_writing(good[i], 1572 + (size_t)off[k], full);
-        refuses_writing(good[i], 1571, full - 1);
-        refuses_writing(good[i], 1576, full + 4);
+            refuses_writing(good[i], 1580, full + (size_t)off[k]);
+        for (unsigned k = 0; k < 6; k++)
+            refuses_writing(good[i], 1580 + (size_t)off[k], full);
+        refuses_writing(good[i], 1579, full - 1);
+        refuses_writing(good[i], 1584, full + 4);
+        refuses_writing(good[i], 1572, full - 8); /* as it was before */
         refuses_writing(good[i], 0, 9 + good[i]);
-        refuses_writing(good[i], 1572, 0);
+        refuses_writing(good[i], 1580, 0);
     }
-    for (size_t file_len = 0; file_len < 1613 + 33; file_len++)
-        if (file_len != 1613)
-            refuses_writing(32, 1572, file_len);
+    for (size_t file_len = 0; file_len < 1621 + 33; file_len++)
+        if (file_len != 1621)
+            refuses_writing(32, 1580, file_len);
 }
 
 /* Reads a file into buffers of those lengths, which must be refused so. */
@@ -195,10 +217,11 @@ static void refuses_reading(const uint8_t *bytes, size_t file_len,
 }
 
 /* A good image of an arena of that length, with room for more behind it. */
-static struct bytes good_file(uint32_t length)
+static struct bytes good_file(unsigned version, uint32_t length)
 {
     start(length);
-    struct bytes image = image_of(&heap), file = filled(image.length + 64, 7);
+    struct bytes image = image_by_hand(&heap, version);
+    struct bytes file = filled(image.length + 64, 7);
     memcpy(file.at, image.at, image.length);
     file.length = image.length;
     free(image.at);
@@ -206,18 +229,25 @@ static struct bytes good_file(uint32_t length)
     return file;
 }
 
-static void damaged_headers(void)
+/* Of the other version a file has another length. */
+static uint32_t damaged_no(unsigned i, const uint8_t *file)
 {
-    static const uint32_t no[HEADER] = { 6, 6, 6, 7, 7, 1, 1, 1, 1 };
+    if (i < 3)
+        return 6;
+    uint64_t version = plain_get(file + 3, 2);
+    return i < 5 && version != 1 && version != 2 ? 7 : 1;
+}
 
-    group("image: every header byte, damaged in every way, is refused");
+static void damaged_headers(unsigned version)
+{
     for (uint32_t length = 32; length <= 64; length += 16) {
-        struct bytes file = good_file(length);
+        struct bytes file = good_file(version, length);
         for (unsigned i = 0; i < HEADER; i++) {
             uint8_t right = file.at[i];
             for (unsigned flip = 1; flip < 256; flip++) {
                 file.at[i] = right ^ (uint8_t)flip;
-                refuses_reading(file.at, file.length, length, 1572, no[i]);
+                refuses_reading(file.at, file.length, length, 1580,
+                                damaged_no(i, file.at));
             }
             file.at[i] = right;
         }
@@ -226,19 +256,18 @@ static void damaged_headers(void)
 }
 
 /* Also with each wrong mark and version, which come before the length. */
-static void short_files(void)
+static void short_files(unsigned version)
 {
-    group("image: every length but the whole file's is refused");
-    struct bytes file = good_file(32);
+    struct bytes file = good_file(version, 32);
     for (size_t length = 0; length <= file.length + 64; length++) {
         if (length != file.length)
-            refuses_reading(file.at, length, 32, 1572, length < 5 ? 6 : 1);
+            refuses_reading(file.at, length, 32, 1580, length < 5 ? 6 : 1);
         file.at[4] = 1;
-        refuses_reading(file.at, length, 32, 1572, length < 5 ? 6 : 7);
+        refuses_reading(file.at, length, 32, 1580, length < 5 ? 6 : 7);
         file.at[2] = 'i';
-        refuses_reading(file.at, length, 32, 1572, 6);
+        refuses_reading(file.at, length, 32, 1580, 6);
         file.at[4] = 0;
-        refuses_reading(file.at, length, 32, 1572, 6);
+        refuses_reading(file.at, length, 32, 1580, 6);
         file.at[2] = 'I';
     }
     free(file.at);
@@ -250,33 +279,33 @@ static void put_length(struct bytes *file, uint32_t length)
 }
 
 /* The file, its field and each lent buffer, one of them off or several. */
-static void wrong_lengths(void)
+static void wrong_lengths(unsigned version)
 {
-    static const int off[] = { 0, -16, -1, 1, 16 };
-    struct bytes file = good_file(256);
+    static const int off[] = { 0, -16, -8, -1, 1, 8, 16 };
+    struct bytes file = good_file(version, 256);
 
-    group("image: lengths that are off by 1 and by 16 are refused with 1");
-    for (unsigned i = 1; i < 5 * 5 * 5 * 5; i++) {
-        int file_off = off[i % 5], field_off = off[i / 5 % 5];
-        int arena_off = off[i / 25 % 5], record_off = off[i / 125];
+    for (unsigned i = 1; i < 7 * 7 * 7 * 7; i++) {
+        int file_off = off[i % 7], field_off = off[i / 7 % 7];
+        int arena_off = off[i / 49 % 7], record_off = off[i / 343];
         bool agree = file_off == field_off && field_off == arena_off
             && record_off == 0 && file_off % 16 == 0;
         if (agree)
             continue;
         put_length(&file, 256 + (uint32_t)field_off);
         refuses_reading(file.at, file.length + (size_t)file_off,
-                        256 + (size_t)arena_off, 1572 + (size_t)record_off, 1);
+                        256 + (size_t)arena_off, 1580 + (size_t)record_off, 1);
     }
     put_length(&file, 256);
-    refuses_reading(file.at, file.length, 0, 1572, 1);
+    refuses_reading(file.at, file.length, 0, 1580, 1);
     refuses_reading(file.at, file.length, 256, 0, 1);
-    refuses_reading(file.at, file.length, 256, 1580, 1);
-    refuses_reading(file.at, file.length, 262144, 1572, 1);
+    refuses_reading(file.at, file.length, 256, 1572, 1);
+    refuses_reading(file.at, file.length, 256, 1584, 1);
+    refuses_reading(file.at, file.length, 262144, 1580, 1);
     free(file.at);
 }
 
 /* A length that is no arena's, also where file and buffer have just that. */
-static void no_arena_lengths(void)
+static void no_arena_lengths(unsigned version)
 {
     static const uint32_t none[] = { 0, 1, 15, 16, 17, 31, 33, 40, 47, 100,
                                      262143, 262145, 262152, 262160, 262176,
@@ -284,71 +313,81 @@ static void no_arena_lengths(void)
     static const uint32_t huge[] = {
         0xffffffff, 0xfffffff0, 0x80000000, 0x7ffffff0, 0x80000020,
         0x00100020, 0x20000000, 0x00200000, 0x01000020,
-        0u - 1581,      /* the whole file wraps to 0 in 32 bits */
-        0u - 1581 + 32, /* to 32 */
-        0u - 1568       /* to 13 */
+        0u - 1581,      /* the whole file wraps to 0 in 32 bits, */
+        0u - 1589,
+        0u - 1581 + 32, /* to 32, */
+        0u - 1589 + 32,
+        0u - 1568       /* to 13 or 21 */
     };
-    struct bytes file = good_file(32);
+    struct bytes file = good_file(version, 32);
+    size_t at = arena_in(version);
 
-    group("image: length fields that no arena has are refused with 1");
     for (unsigned i = 0; i < sizeof none / sizeof none[0]; i++) {
-        struct bytes whole = filled(1581 + none[i], 0);
-        memcpy(whole.at, file.at, 1581);
+        struct bytes whole = filled(at + none[i], 0);
+        memcpy(whole.at, file.at, at);
         put_length(&whole, none[i]);
-        refuses_reading(whole.at, whole.length, none[i], 1572, 1);
-        refuses_reading(whole.at, whole.length, 32, 1572, 1);
+        refuses_reading(whole.at, whole.length, none[i], 1580, 1);
+        refuses_reading(whole.at, whole.length, 32, 1580, 1);
         free(whole.at);
     }
     for (unsigned i = 0; i < sizeof huge / sizeof huge[0]; i++) {
         put_length(&file, huge[i]);
         for (size_t length = 5; length <= file.length; length += 4)
-            refuses_reading(file.at, length, 32, 1572, 1);
-        refuses_reading(file.at, file.length, 0, 1572, 1);
-        refuses_reading(file.at, file.length, 262144, 1572, 1);
+            refuses_reading(file.at, length, 32, 1580, 1);
+        refuses_reading(file.at, file.length, 0, 1580, 1);
+        refuses_reading(file.at, file.length, 262144, 1580, 1);
     }
     free(file.at);
 }
 
-static void unknown_versions(void)
+/* In files of both lengths. */
+static void unknown_versions(unsigned as)
 {
-    static const uint32_t version[] = { 0, 2, 3, 4, 255, 256, 257, 258, 512,
-                                        32768, 32769, 65280, 65281, 65535 };
-    struct bytes file = good_file(32);
+    static const uint32_t version[] = { 0, 3, 4, 255, 256, 257, 258, 512, 513,
+                                        32768, 32769, 65280, 65282, 65535 };
+    struct bytes file = good_file(as, 32);
 
-    group("image: versions other than 1 are refused with 7, before any length");
     for (unsigned i = 0; i < sizeof version / sizeof version[0]; i++) {
         plain_put(file.at + 3, 2, version[i]);
         put_length(&file, 32);
-        refuses_reading(file.at, file.length, 32, 1572, 7);
-        refuses_reading(file.at, file.length + 1, 32, 1572, 7);
-        refuses_reading(file.at, file.length, 48, 1571, 7);
+        refuses_reading(file.at, file.length, 32, 1580, 7);
+        refuses_reading(file.at, file.length + 1, 32, 1580, 7);
+        refuses_reading(file.at, file.length, 48, 1572, 7);
         put_length(&file, 0xffffffff);
         for (size_t length = 5; length < 12; length++)
-            refuses_reading(file.at, length, 32, 1572, 7);
+            refuses_reading(file.at, length, 32, 1580, 7);
     }
     free(file.at);
 }
 
 /* Mark, version and one of the lengths, each wrong or not. */
-static void order_of_refusals(void)
+static void order_of_refusals(unsigned version)
 {
-    struct bytes file = good_file(64);
+    struct bytes file = good_file(version, 64);
 
-    group("image: 6 comes before 7, and 7 before 1");
     for (unsigned wrong = 1; wrong < 8; wrong++) {
         uint32_t off = wrong & 4, no = wrong & 1 ? 6 : wrong & 2 ? 7 : 1;
         file.at[0] = wrong & 1 ? 'h' : 'H';
-        file.at[3] = wrong & 2 ? 9 : 1;
+        file.at[3] = wrong & 2 ? 9 : (uint8_t)version;
         put_length(&file, 64 - off);
-        refuses_reading(file.at, file.length, 64, 1572, no);
+        refuses_reading(file.at, file.length, 64, 1580, no);
         put_length(&file, 64);
-        refuses_reading(file.at, file.length - off, 64, 1572, no);
-        refuses_reading(file.at, file.length, 64 - off, 1572, no);
-        refuses_reading(file.at, file.length, 64, 1572 + off, no);
+        refuses_reading(file.at, file.length - off, 64, 1580, no);
+        refuses_reading(file.at, file.length, 64 - off, 1580, no);
+        refuses_reading(file.at, file.length, 64, 1580 + off, no);
         for (size_t length = 0; length < 5; length++)
-            refuses_reading(file.at, length, 64, 1572, 6);
+            refuses_reading(file.at, length, 64, 1580, 6);
     }
     free(file.at);
+}
+
+typedef void refusals(unsigned version);
+
+static void of_both_versions(const char *name, refusals *of)
+{
+    group(name);
+    of(1);
+    of(2);
 }
 
 /* ---- round trips ---- */
@@ -389,6 +428,52 @@ static struct second_fault round_trip(const struct lent *l, uint64_t seed)
     return f;
 }
 
+/* What an image of version 1 becomes: a copy with the key 0, or more. */
+static struct lent read_from_old(const struct lent *l, bool sound)
+{
+    static struct plain_view view;
+    struct lent as_read = lend(l->length, 0);
+
+    copy_lent(&as_read, l);
+    plain_put_key(as_read.record, 0);
+    view.tiles = 0;
+    if (sound)
+        plain_read(&view, l->arena, (uint32_t)l->length, l->record);
+    for (uint32_t i = 0; i < view.tiles; i++)
+        if (view.tile[i].state == PLAIN_CACHED)
+            plain_put(as_read.arena + view.tile[i].at + 24, 8, 0);
+    return as_read;
+}
+
+/* Reads the heap from an image of version 1; the answer. */
+static struct second_fault old_trip(const struct lent *l, uint64_t seed)
+{
+    struct second_fault audit = lent_audit_without_keys(l);
+    struct lent expected = read_from_old(l, audit.kind == SECOND_SOUND);
+    struct lent back = lend(l->length, 0xb7);
+    struct bytes file = image_by_hand(l, 1);
+    struct bytes kept = copy_of(file.at, file.length);
+    struct second_fault f =
+        second_read_image(file.at, file.length, back.arena, back.length,
+                          back.record, back.record_len);
+    CHECK(same_fault(f, audit),
+          "seed %llu: an old heap is answered %u %u %u, not its audit's",
+          (unsigned long long)seed, f.no, f.kind, f.number);
+    CHECK(same_arena(&expected, &back) && same_record(&expected, &back),
+          "seed %llu: an old heap is read in otherwise",
+          (unsigned long long)seed);
+    CHECK(memcmp(file.at, kept.at, file.length) == 0,
+          "seed %llu: reading changed the file", (unsigned long long)seed);
+    CHECK(f.kind != SECOND_SOUND || lent_sound(&back),
+          "seed %llu: a sound old heap is not sound today",
+          (unsigned long long)seed);
+    free(kept.at);
+    free(file.at);
+    give_back(&back);
+    give_back(&expected);
+    return f;
+}
+
 static struct lent random_lent(struct random *r)
 {
     bool large = random_chance(r, 5);
@@ -410,17 +495,42 @@ static void sound_images(uint32_t rounds)
     }
 }
 
-static void damaged_images(uint32_t rounds)
+/* The words of the cached chunks are then any. */
+static void old_sound_images(uint32_t rounds)
+{
+    uint64_t keyless = 0;
+
+    group("image: sound heaps of version 1 get the key 0, and nothing else");
+    for (uint64_t i = 1; i <= rounds && !group_failed(); i++) {
+        struct random r = { (1u << 27) + i };
+        struct lent l = random_lent(&r);
+        if (i % 2 == 0)
+            damage_key(&r, l.arena, l.record);
+        if (i % 3 == 0)
+            plain_put_key(l.record, random_key(&r));
+        keyless += !lent_sound(&l);
+        CHECK(old_trip(&l, i).kind == SECOND_SOUND,
+              "seed %llu: a sound heap of version 1 is not answered so",
+              (unsigned long long)i);
+        give_back(&l);
+    }
+    remark(", %llu of them not sound by today's rules",
+           (unsigned long long)keyless);
+    CHECK(keyless > rounds / 8, "only %llu have wrong keys",
+          (unsigned long long)keyless);
+}
+
+static void damaged_images(const char *name, bool old, uint32_t rounds)
 {
     uint64_t kinds[7] = { 0 };
 
-    group("image: damaged heaps are read back as they were, with their fault");
+    group(name);
     for (uint64_t i = 1; i <= rounds && !group_failed(); i++) {
         struct random r = { (1u << 26) + i };
         struct lent l = random_lent(&r);
         (i % 2 == 0 ? damage_field : damage_bytes)(
             &r, l.arena, (uint32_t)l.length, l.record);
-        kinds[round_trip(&l, i).kind]++;
+        kinds[(old ? old_trip : round_trip)(&l, i).kind]++;
         give_back(&l);
     }
     for (unsigned k = 0; k < 7; k++) {
@@ -434,19 +544,40 @@ static void damaged_images(uint32_t rounds)
 static struct bytes random_file(struct random *r)
 {
     uint32_t step = random_chance(r, 80) ? 16 : 1;
+    unsigned version = 1 + random_below(r, 2);
+    size_t at = arena_in(version);
     struct bytes file =
         filled(random_chance(r, 30) ? random_below(r, 20)
-                                    : 1581 + step * random_below(r, 40), 0);
+                                    : at + step * random_below(r, 40), 0);
     random_bytes(r, file.at, file.length);
     if (file.length < HEADER || random_chance(r, 10))
         return file;
-    memcpy(file.at, "HPI\1\0", 5);
+    memcpy(file.at, "HPI", 3);
+    plain_put(file.at + 3, 2, version);
     plain_put(file.at + 5, 4,
-              file.length < 1581 ? 32 : (uint32_t)file.length - 1581);
+              file.length < at ? 32 : (uint32_t)(file.length - at));
     for (unsigned i = 0; i < HEADER; i++)
         if (random_chance(r, 2))
             file.at[i] = (uint8_t)random_next(r);
     return file;
+}
+
+/* What any bytes are read as, if their lengths are an image's. */
+static void read_any(const struct bytes *file, const struct bytes *arena,
+                     const struct bytes *record, struct second_fault f,
+                     uint64_t seed)
+{
+    unsigned version = file->at[3];
+    size_t at = arena_in(version);
+
+    CHECK(memcmp(record->at, file->at + 9, at - 9) == 0
+              && memcmp(arena->at, file->at + at, arena->length) == 0,
+          "seed %llu: other bytes were read", (unsigned long long)seed);
+    CHECK(version == 2 || plain_key(record->at) == 0,
+          "seed %llu: another key than 0", (unsigned long long)seed);
+    CHECK(same_fault(f, oracle_audit(arena->at, arena->length, record->at,
+                                     1580, version == 2)),
+          "seed %llu: another audit", (unsigned long long)seed);
 }
 
 static void any_files(uint32_t rounds)
@@ -457,22 +588,18 @@ static void any_files(uint32_t rounds)
     for (uint64_t seed = 1; seed <= rounds && !group_failed(); seed++) {
         struct random r = { seed << 20 };
         struct bytes file = random_file(&r);
-        size_t length = file.length < 1581 ? 32 : file.length - 1581;
-        struct bytes arena = filled(length, 1), record = filled(1572, 2);
+        size_t at = arena_in(file.length > 3 ? file.at[3] : 2);
+        size_t length = file.length < at ? 32 : file.length - at;
+        struct bytes arena = filled(length, 1), record = filled(1580, 2);
         struct second_fault f =
             second_read_image(file.at, file.length, arena.at, length,
-                              record.at, 1572);
+                              record.at, 1580);
         if (CHECK(f.no == 0 || f.no == 1 || f.no == 6 || f.no == 7,
                   "seed %llu: answered %u", (unsigned long long)seed, f.no))
             refused[f.no]++;
         if (f.no == 0) {
             read++;
-            CHECK(memcmp(record.at, file.at + 9, 1572) == 0
-                      && memcmp(arena.at, file.at + 1581, length) == 0,
-                  "seed %llu: other bytes were read", (unsigned long long)seed);
-            CHECK(same_fault(f, oracle_audit(arena.at, length, record.at,
-                                             1572)),
-                  "seed %llu: another audit", (unsigned long long)seed);
+            read_any(&file, &arena, &record, f, seed);
         } else {
             CHECK(all_are(&arena, 1) && all_are(&record, 2),
                   "seed %llu: refused with %u, but written",
@@ -516,16 +643,25 @@ static void shows_bytes(const uint8_t *bytes, size_t length,
           expected);
 }
 
-/* Of the heap in hand; the audit's line, and those of the tiles. */
-static void shows(const char *answer, const char *tiles)
+/*
+ * Of the heap in hand, in an image of that version: the audit's line, and
+ * those of the tiles.
+ */
+static void shows_by(unsigned version, const char *answer, const char *tiles)
 {
     static char expected[4096];
-    struct bytes file = image_of(&heap);
+    struct bytes file = image_by_hand(&heap, version);
 
-    snprintf(expected, sizeof expected, "image 1 %zu\n%s\n%s", heap.length,
-             answer, tiles);
+    snprintf(expected, sizeof expected, "image %u %zu\n%s\n%s", version,
+             heap.length, answer, tiles);
     shows_bytes(file.at, file.length, expected);
     free(file.at);
+}
+
+static void shows(const char *answer, const char *tiles)
+{
+    shows_by(1, answer, tiles);
+    shows_by(2, answer, tiles);
 }
 
 static void put_link(uint32_t c, uint64_t to)
@@ -538,42 +674,59 @@ static void put_back_link(uint32_t c, uint64_t to)
     plain_put(heap.arena + c + 24, 8, to);
 }
 
+/* The key of a cached chunk stands where a back link would. */
+static void put_key(uint32_t c, uint64_t key)
+{
+    plain_put(heap.arena + c + 24, 8, key);
+}
+
 static void put_word(unsigned word, uint32_t v)
 {
     plain_put_word(heap.record, word, v);
 }
 
-static void prints_refusals(void)
+static void prints_refusals(unsigned version)
 {
-    struct bytes file = good_file(64);
-    struct bytes whole = filled(1581 + 262144 + 1, 0);
+    struct bytes file = good_file(version, 64);
+    size_t at = arena_in(version);
+    char expected[64];
 
-    group("heapimage: a refusal is one line");
     shows_bytes(file.at, 0, "? 6\n");
     shows_bytes(file.at, 4, "? 6\n");
     shows_bytes(file.at, 5, "? 1\n");
     shows_bytes(file.at, 1581, "? 1\n");
+    shows_bytes(file.at, 1589, "? 1\n");
     shows_bytes(file.at, file.length - 1, "? 1\n");
     shows_bytes(file.at, file.length + 1, "? 1\n");
-    shows_bytes(file.at, file.length, "image 1 64\nsound\n0 64 top\n");
-    file.at[3] = 2;
+    shows_bytes(file.at, file.length - 8, "? 1\n");
+    shows_bytes(file.at, file.length + 8, "? 1\n");
+    snprintf(expected, sizeof expected, "image %u 64\nsound\n0 64 top\n",
+             version);
+    shows_bytes(file.at, file.length, expected);
+    file.at[3] = (uint8_t)(3 - version); /* another length is then right */
+    shows_bytes(file.at, file.length, "? 1\n");
+    file.at[3] = 3;
     shows_bytes(file.at, file.length, "? 7\n");
     shows_bytes(file.at, 5, "? 7\n");
     shows_bytes(file.at, 4, "? 6\n");
     file.at[0] = 'G';
     shows_bytes(file.at, file.length, "? 6\n");
 
-    /* One byte more than any image has: 6 and 7 still come before 1. */
+    /* More bytes than such an image has: 6 and 7 still come before 1. */
+    struct bytes whole = filled(at + 262144 + 9, 0);
     shows_bytes(whole.at, whole.length, "? 6\n");
-    memcpy(whole.at, "HPI\2\0\0\0\4\0", 9);
+    memcpy(whole.at, "HPI\3\0\0\0\4\0", 9);
     shows_bytes(whole.at, whole.length, "? 7\n");
-    whole.at[3] = 1;
-    shows_bytes(whole.at, whole.length, "? 1\n");
-    shows_bytes(whole.at, whole.length - 1,
-                "image 1 262144\nfault record\n");
+    whole.at[3] = (uint8_t)version;
+    for (size_t more = 1; more <= 9; more++)
+        shows_bytes(whole.at, at + 262144 + more, "? 1\n");
+    snprintf(expected, sizeof expected, "image %u 262144\nfault record\n",
+             version);
+    shows_bytes(whole.at, at + 262144, expected);
     plain_put(whole.at + 9, 4, 262144);
-    shows_bytes(whole.at, whole.length - 1,
-                "image 1 262144\nfault tile 0\n");
+    snprintf(expected, sizeof expected, "image %u 262144\nfault tile 0\n",
+             version);
+    shows_bytes(whole.at, at + 262144, expected);
     free(whole.at);
     free(file.at);
 }
@@ -633,6 +786,11 @@ static void stacks_that_cross(void)
     group("heapimage: two stacks that cross");
     start_stacks();
     put_link(128, 224); /* the later list reaches nothing */
+    shows_by(1, "fault cache 0", FOUR_LIVE THREE_CACHED "224 32 cache 0\n"
+                                 "256 768 top\n");
+    /* by its second word it is none of the cache's, and so it is fast */
+    shows_by(2, "fault cache 0", FOUR_LIVE THREE_CACHED FAST_AND_TOP);
+    put_key(224, KEY);
     shows("fault cache 0", FOUR_LIVE THREE_CACHED "224 32 cache 0\n"
                            "256 768 top\n");
     put_link(128, 96);
@@ -658,6 +816,76 @@ static void stack_circles(void)
     put_link(96, 64);
     put_link(224, 224);
     shows("fault fast 0", SEVEN_AND_ONE);
+    stop();
+}
+
+/* The cached ones, from the head on, up to one; the others are live. */
+static const char *cached_down_to(uint32_t last)
+{
+    static char text[512];
+    int used = 0;
+
+    for (uint32_t c = 0; c < 224; c += 32)
+        used += snprintf(text + used, sizeof text - (size_t)used, "%u 32 %s\n",
+                         c, c >= last ? "cache 0" : "live");
+    snprintf(text + used, sizeof text - (size_t)used, FAST_AND_TOP);
+    return text;
+}
+
+static void wrong_keys(void)
+{
+    static const uint64_t bad[] = { 0, PLAIN_NONE64, ~KEY, KEY + 1, KEY - 1,
+                                    KEY ^ ((uint64_t)1 << 63),
+                                    KEY & PLAIN_NONE32 };
+
+    group("heapimage: a wrong key ends its list, unless the version is 1");
+    start_stacks();
+    for (uint32_t c = 0; c < 224; c += 32) {
+        for (unsigned i = 0; i < sizeof bad / sizeof bad[0]; i++) {
+            put_key(c, bad[i]);
+            shows_by(1, "sound", SEVEN_AND_ONE);
+            shows_by(2, "fault cache 0", cached_down_to(c + 32));
+        }
+        put_key(c, KEY);
+    }
+    shows("sound", SEVEN_AND_ONE);
+    put_key(224, 0); /* nobody asks it of a fast chunk */
+    shows("sound", SEVEN_AND_ONE);
+    stop();
+
+    start_stacks(); /* the record has another key than all of them */
+    for (unsigned i = 0; i < sizeof bad / sizeof bad[0]; i++) {
+        plain_put_key(heap.record, bad[i]);
+        shows_by(1, "sound", SEVEN_AND_ONE);
+        shows_by(2, "fault cache 0", cached_down_to(224));
+    }
+    stop();
+
+    start_stacks(); /* bad there, good here: a fast list asks for no key */
+    put_key(192, 0);
+    put_word(plain_fast_head(0), 192);
+    shows_by(1, "fault fast 0", ALL_CACHED "224 32 live\n256 768 top\n");
+    shows_by(2, "fault cache 0",
+             "0 32 fast 0\n32 32 fast 0\n64 32 fast 0\n96 32 fast 0\n"
+             "128 32 fast 0\n160 32 fast 0\n192 32 fast 0\n224 32 live\n"
+             "256 768 top\n");
+    stop();
+}
+
+/* A fault elsewhere: the words are not written, and keys are not asked. */
+static void old_and_unsound(void)
+{
+    group("heapimage: version 1 with a fault elsewhere, and without keys");
+    start_stacks();
+    for (uint32_t c = 0; c < 224; c += 32)
+        put_key(c, 3 * c + 7);
+    put_word(plain_bin_last(2), 0);
+    shows_by(1, "fault bin 2", SEVEN_AND_ONE);
+    shows_by(2, "fault cache 0", cached_down_to(224));
+    put_link(96, 8);
+    shows_by(1, "fault cache 0", "0 32 live\n32 32 live\n64 32 live\n"
+                                 "96 32 cache 0\n" THREE_CACHED FAST_AND_TOP);
+    shows_by(2, "fault cache 0", cached_down_to(224));
     stop();
 }
 
@@ -974,11 +1202,12 @@ static void same_as_plain(const struct lent *l, uint32_t tiles, uint64_t seed)
               view.tile[i].at);
 }
 
-static void same_as_slow(const struct lent *l, uint32_t tiles, uint64_t seed)
+static void same_as_slow(const struct lent *l, bool keyed, uint32_t tiles,
+                         uint64_t seed)
 {
     static unsigned list[PLAIN_TILES_MAX + 1];
 
-    size_t slow = oracle_reached(l->arena, l->length, l->record, list);
+    size_t slow = oracle_reached(l->arena, l->length, l->record, keyed, list);
     CHECK(slow == tiles, "seed %llu: %u tiles, not %zu",
           (unsigned long long)seed, tiles, slow);
     for (uint32_t i = 0; i < tiles && !group_failed(); i++)
@@ -1000,10 +1229,11 @@ static struct lent random_harmed(struct random *r)
     flawed_heap(r, random_chance(r, 60) ? FLAW_NONE
                                         : 1 + random_below(r, FLAW_COUNT - 1),
                 l.arena, length, l.record);
-    switch (random_below(r, 6)) {
+    switch (random_below(r, 7)) {
     case 0: break;
     case 1: damage_bytes(r, l.arena, length, l.record); break;
     case 2: damage_field(r, l.arena, length, l.record); break;
+    case 3: plain_put_key(l.record, random_key(r)); break;
     default: damage_lists(r, l.arena, length, l.record);
     }
     return l;
@@ -1017,11 +1247,13 @@ static void random_states(uint32_t rounds)
     for (uint64_t seed = 1; seed <= rounds && !group_failed(); seed++) {
         struct random r = { seed << 24 };
         struct lent l = random_harmed(&r);
-        struct second_fault f = lent_audit(&l);
+        bool keyed = random_chance(&r, 70);
+        struct second_fault f =
+            keyed ? lent_audit(&l) : lent_audit_without_keys(&l);
         if (f.kind != SECOND_RECORD && f.kind != SECOND_TILE) {
             uint32_t tiles = second_tiles(l.arena, (uint32_t)l.length,
-                                          l.record, tile);
-            same_as_slow(&l, tiles, seed);
+                                          l.record, keyed, tile);
+            same_as_slow(&l, keyed, tiles, seed);
             if (f.kind == SECOND_SOUND)
                 same_as_plain(&l, tiles, seed);
             *(f.kind == SECOND_SOUND ? &sound : &unsound) += 1;
@@ -1049,19 +1281,31 @@ int main(int argc, char **argv)
     smallest_image();
     larger_images();
     refused_writes();
-    damaged_headers();
-    short_files();
-    wrong_lengths();
-    no_arena_lengths();
-    unknown_versions();
-    order_of_refusals();
-    sound_images(6000 / share);
-    damaged_images(12000 / share);
+    of_both_versions("image: every header byte, damaged in every way, is "
+                     "refused", damaged_headers);
+    of_both_versions("image: every length but the whole file's is refused",
+                     short_files);
+    of_both_versions("image: lengths that are off by 1, by 8 and by 16 are "
+                     "refused with 1", wrong_lengths);
+    of_both_versions("image: length fields that no arena has are refused "
+                     "with 1", no_arena_lengths);
+    of_both_versions("image: versions other than 1 and 2 are refused with 7, "
+                     "before any length", unknown_versions);
+    of_both_versions("image: 6 comes before 7, and 7 before 1",
+                     order_of_refusals);
+    sound_images(5000 / share);
+    old_sound_images(5000 / share);
+    damaged_images("image: damaged heaps are read back as they were, with "
+                   "their fault", false, 8000 / share);
+    damaged_images("image: damaged heaps of version 1 are copied, with their "
+                   "fault", true, 8000 / share);
     any_files(40000 / share);
-    prints_refusals();
+    of_both_versions("heapimage: a refusal is one line", prints_refusals);
     stack_bad_links();
     stacks_that_cross();
     stack_circles();
+    wrong_keys();
+    old_and_unsound();
     eighth_cached();
     wrong_counts();
     stack_wrong_sizes();

@@ -4,7 +4,8 @@
  * call the heap is audited and held against a model that knows only which
  * blocks were granted and what their holders wrote. A resize is also put
  * together from other calls on a copy, and every byte compared; what a release,
- * an emptying and a joining leave is told by the tiles before them.
+ * an emptying and a joining leave is told by the tiles before them. Each heap
+ * has a random key; two of them, with different keys, answer alike.
  */
 #include <stdio.h>
 #include <stdlib.h>
@@ -20,6 +21,9 @@
 struct held {
     uint32_t mem, usable;
 };
+
+/* Where a grant found a whole chunk that was in a list before it. */
+enum found { IN_CACHE, IN_FAST_LIST, IN_SMALL_BIN, IN_UNSORTED, FOUNDS };
 
 struct model {
     struct random r;
@@ -37,13 +41,14 @@ struct model {
     uint32_t consolidated; /* releases and emptyings that joined fast chunks */
     bool emptied; /* and no grant, release or resize since */
     uint32_t demanded; /* joinings of which demand 3 speaks */
+    uint32_t found[FOUNDS];
 };
 
 static struct plain_view view;     /* after the call */
 static struct plain_view expected; /* by tiles */
 
 /* What same_everywhere must come to; it moves only with the generator. */
-#define SAME_EVERYWHERE 0x0f1fb0ff2c707e51u
+#define SAME_EVERYWHERE 0x2691b522bdd2b2adu
 
 #define EXPECT(m, good, text) \
     CHECK(good, "seed %llu, call %u: %s", (unsigned long long)(m)->seed, \
@@ -138,7 +143,15 @@ static void bytes_unchanged(struct model *m, uint32_t blocks)
                "a held block's bytes changed");
 }
 
-/* Live by the heap's bytes is the same as granted and not yet released. */
+static uint64_t second_word(const struct lent *l, uint32_t c)
+{
+    return plain_get(l->arena + c + 24, 8);
+}
+
+/*
+ * Live by the heap's bytes is the same as granted and not yet released; every
+ * cached chunk has the key.
+ */
 static void live_is_held(struct model *m)
 {
     uint32_t live = 0;
@@ -150,6 +163,10 @@ static void live_is_held(struct model *m)
         live += t->state == PLAIN_LIVE;
         EXPECT(m, (t->state == PLAIN_LIVE) == held,
                "a live block is not held, or a held one is not live");
+        EXPECT(m, t->state != PLAIN_CACHED
+                      || second_word(&m->heap, t->at)
+                          == plain_key(m->heap.record),
+               "a cached chunk has not the key");
     }
     EXPECT(m, live == m->blocks, "another number of blocks is live than held");
 }
@@ -160,6 +177,8 @@ static void after_call(struct model *m, bool granted)
     EXPECT(m, lent_sound(&m->heap), "the heap is no longer sound");
     if (group_failed())
         return;
+    EXPECT(m, plain_key(m->heap.record) == plain_key(m->before.record),
+           "the record's key changed");
     bytes_unchanged(m, m->blocks - (granted ? 1 : 0));
     live_is_held(m);
 }
@@ -209,7 +228,7 @@ static void nothing_stays_cut_up(struct model *m)
     if (m->blocks > 0)
         return;
     struct lent fresh = lend(m->heap.length, 0);
-    lent_open(&fresh);
+    lent_open(&fresh, plain_key(m->heap.record));
     EXPECT(m, view.tiles == 1 && same_record(&m->heap, &fresh),
            "emptied and joined without blocks, but not as newly opened");
     give_back(&fresh);
@@ -234,6 +253,57 @@ static uint64_t random_request(struct model *m)
     }
 }
 
+static bool was_in_unsorted(const struct model *m, uint32_t c)
+{
+    uint32_t first = plain_word(m->before.record, plain_bin_first(1));
+    uint64_t at = first == PLAIN_NONE32 ? PLAIN_NONE64 : first;
+    while (at != PLAIN_NONE64 && at != c)
+        at = plain_get(m->before.arena + at + 16, 8);
+    return at == c;
+}
+
+/* In which list a chunk of size b was before the call that granted it. */
+static enum found found_in(const struct model *m, uint32_t c, uint32_t b)
+{
+    const uint8_t *record = m->before.record;
+    unsigned k = (b - 32) / 16;
+
+    if (b <= 1040 && plain_word(record, plain_cache_head(k)) == c)
+        return IN_CACHE;
+    if (b <= 128 && plain_word(record, plain_fast_head(k)) == c)
+        return IN_FAST_LIST;
+    if (b < 1024 && plain_word(record, plain_bin_last(b / 16)) == c)
+        return IN_SMALL_BIN;
+    if (b < 1024 && was_in_unsorted(m, c)
+        && plain_get(m->before.arena + c + 8, 8) / 16 == b / 16)
+        return IN_UNSORTED;
+    return FOUNDS;
+}
+
+/* Step 5 caches up to seven equals and grants the last; an eighth, at once. */
+static bool was_eighth(const struct model *m, uint32_t b)
+{
+    return plain_word(m->heap.record, plain_cache_count((b - 32) / 16)) == 7;
+}
+
+/*
+ * What a block just granted holds in its second word, where it is a whole
+ * chunk of a list: 0 if it came from the cache, else what stood there.
+ */
+static void granted_holds(struct model *m, uint64_t n, uint32_t mem)
+{
+    uint32_t c = mem - 16, b = n <= 24 ? 32 : ((uint32_t)n + 23) & ~15u;
+    enum found found = found_in(m, c, b);
+    if (found == FOUNDS)
+        return;
+    bool from_cache = found == IN_CACHE
+        || (found == IN_UNSORTED && !was_eighth(m, b));
+    m->found[found]++;
+    EXPECT(m, second_word(&m->heap, c)
+                  == (from_cache ? 0 : second_word(&m->before, c)),
+           "a granted block has another second word");
+}
+
 static void call_grant(struct model *m, uint64_t n)
 {
     struct second_answer a = lent_grant(&m->heap, n);
@@ -249,6 +319,8 @@ static void call_grant(struct model *m, uint64_t n)
             refused_for_room(m);
     }
     after_call(m, a.no == 0);
+    if (a.no == 0 && !group_failed())
+        granted_holds(m, n, a.mem);
     if (a.no == 0 && !group_failed() && random_chance(&m->r, 80))
         holder_writes(m, &m->block[m->blocks - 1]);
 }
@@ -306,7 +378,7 @@ static void audited_slowly(struct model *m)
     if (h->length > 2048 && !random_chance(&m->r, h->length > 8192 ? 2 : 20))
         return;
     struct second_fault f =
-        oracle_audit(h->arena, h->length, h->record, h->record_len);
+        oracle_audit(h->arena, h->length, h->record, h->record_len, true);
     EXPECT(m, f.no == 0 && f.kind == SECOND_SOUND,
            "not sound after a resize, says the slow audit");
 }
@@ -395,6 +467,30 @@ static void random_resize(struct model *m)
     call_resize(m, mem, random_chance(&m->r, 4) ? 0 : n);
 }
 
+/* Which chunks were cached, by their offset / 16, in the view before a call. */
+static uint8_t was_cached[PLAIN_ARENA_MAX / 16];
+
+static void note_cached(const struct plain_view *before)
+{
+    memset(was_cached, 0, sizeof was_cached);
+    for (uint32_t i = 0; i < before->tiles; i++)
+        was_cached[before->tile[i].at / 16] =
+            before->tile[i].state == PLAIN_CACHED;
+}
+
+/* On a fast list nothing covers the 0 that the emptying wrote. */
+static void emptied_to_fast(struct model *m)
+{
+    for (uint32_t i = 0; i < view.tiles; i++) {
+        uint32_t c = view.tile[i].at;
+        if (view.tile[i].state == PLAIN_FAST)
+            EXPECT(m, second_word(&m->heap, c)
+                          == (was_cached[c / 16] ? 0
+                                                 : second_word(&m->before, c)),
+                   "a fast chunk has another second word after an emptying");
+    }
+}
+
 /* The cache goes, the last remainder stays; the rest is told by tiles. */
 static void call_emptying(struct model *m)
 {
@@ -404,10 +500,12 @@ static void call_emptying(struct model *m)
     EXPECT(m, a.no == 0 && a.mem == 0 && a.usable == 0,
            "an emptying was refused");
     read_expected(m);
+    note_cached(&expected);
     m->consolidated += emptying_by_tiles(&expected, &m->before);
     after_call(m, false);
     EXPECT(m, same_tiles(&view, &expected),
            "an emptying leaves other tiles than it should");
+    emptied_to_fast(m);
     for (unsigned k = 0; k < 64; k++)
         EXPECT(m, plain_word(record, plain_cache_head(k)) == PLAIN_NONE32
                       && plain_word(record, plain_cache_count(k)) == 0,
@@ -468,7 +566,8 @@ static void call_with_bad_shape(struct model *m)
     if (random_chance(&m->r, 50))
         h->length -= 1 + random_below(&m->r, 15);
     else
-        h->record_len = random_below(&m->r, PLAIN_RECORD_BYTES);
+        h->record_len = random_chance(&m->r, 30)
+            ? 1572 : random_below(&m->r, PLAIN_RECORD_BYTES);
     uint32_t n = random_below(&m->r, 300000), drawn = random_below(&m->r, 4);
     struct second_answer a = drawn == 0 ? lent_grant(h, n)
         : drawn == 1                    ? lent_resize(h, random_mem(m), n)
@@ -526,7 +625,7 @@ static void random_call(struct model *m)
 /* What all models of a group did. */
 struct sums {
     uint64_t calls, refused[6], resizes, moved, by_parts;
-    uint64_t consolidated, demanded;
+    uint64_t consolidated, demanded, found[FOUNDS];
 };
 
 static void add_counts(struct sums *sum, const struct model *m)
@@ -539,6 +638,8 @@ static void add_counts(struct sums *sum, const struct model *m)
     sum->by_parts += m->by_parts;
     sum->consolidated += m->consolidated;
     sum->demanded += m->demanded;
+    for (unsigned i = 0; i < FOUNDS; i++)
+        sum->found[i] += m->found[i];
 }
 
 static void tell_counts(const struct sums *sum)
@@ -554,6 +655,12 @@ static void tell_counts(const struct sums *sum)
            (unsigned long long)sum->by_parts,
            (unsigned long long)sum->consolidated,
            (unsigned long long)sum->demanded);
+    remark("; granted from cache %llu, fast list %llu, small bin %llu, "
+           "unsorted %llu",
+           (unsigned long long)sum->found[IN_CACHE],
+           (unsigned long long)sum->found[IN_FAST_LIST],
+           (unsigned long long)sum->found[IN_SMALL_BIN],
+           (unsigned long long)sum->found[IN_UNSORTED]);
 }
 
 static void sequences(const char *name, bool opened, uint32_t most,
@@ -566,7 +673,8 @@ static void sequences(const char *name, bool opened, uint32_t most,
         struct model m = model_new(seed + ((uint64_t)most << 32), most);
         if (opened) {
             random_bytes(&m.r, m.heap.arena, m.heap.length);
-            EXPECT(&m, lent_open(&m.heap).no == 0, "open refused");
+            EXPECT(&m, lent_open(&m.heap, random_key(&m.r)).no == 0,
+                   "open refused");
         } else {
             random_heap(&m.r, m.heap.arena, (uint32_t)m.heap.length,
                         m.heap.record);
@@ -582,6 +690,8 @@ static void sequences(const char *name, bool opened, uint32_t most,
         model_free(&m);
     }
     tell_counts(&sum);
+    for (unsigned i = 0; i < FOUNDS && sum.calls > 20000; i++)
+        CHECK(sum.found[i] > 0, "no grant found a chunk in place %u", i);
 }
 
 /* ---- resizes that find what is right behind ---- */
@@ -657,7 +767,7 @@ static void between_fast_chunks(uint32_t rounds)
         uint32_t length = 7 * (n + 32) + count * (2 * n + 96) + 64;
         struct model m = model_of_length(r, seed, (length + 15) & ~15u);
         random_bytes(&m.r, m.heap.arena, m.heap.length);
-        lent_open(&m.heap);
+        lent_open(&m.heap, random_key(&m.r));
         grow_between_fast_chunks(&m, n, count);
         add_counts(&sum, &m);
         model_free(&m);
@@ -748,7 +858,7 @@ static void among_fast_chunks(uint32_t rounds)
         uint32_t length = 65536 + 16 * random_below(&r, 12289);
         struct model m = model_of_length(r, seed, length);
         random_bytes(&m.r, m.heap.arena, m.heap.length);
-        lent_open(&m.heap);
+        lent_open(&m.heap, random_key(&m.r));
         if (random_chance(&m.r, 70))
             release_much(&m);
         else
@@ -762,14 +872,20 @@ static void among_fast_chunks(uint32_t rounds)
     tell_counts(&sum);
 }
 
-/* ---- answers do not depend on bytes that mean nothing ---- */
+/* ---- answers depend neither on bytes that mean nothing nor on the key ---- */
 
-/* Draws the same call for both; every byte they may differ in does. */
-static void twin_call(struct model *a, struct model *b)
+/* What a call did to blocks; mem 0 is none. */
+struct change {
+    struct held from, to;
+};
+
+/* Draws the same call for both, which must answer alike. */
+static struct change twin_call(struct model *a, struct model *b)
 {
     bool grant = a->blocks == 0 || random_chance(&a->r, 55);
     uint32_t i = random_below(&a->r, a->blocks);
     struct second_answer left, right;
+    struct change change = { { 0, 0 }, { 0, 0 } };
 
     if (random_chance(&a->r, 4)) {
         bool emptying = random_chance(&a->r, 50);
@@ -783,8 +899,10 @@ static void twin_call(struct model *a, struct model *b)
                                 mem);
         left = lent_resize(&a->heap, mem, n);
         right = lent_resize(&b->heap, mem, n);
-        if (left.no == 0)
+        if (left.no == 0) {
+            change.from = a->block[i];
             let_go(a, i);
+        }
         if (left.no == 0 && left.mem != 0)
             hold(a, left.mem, left.usable);
     } else if (grant) {
@@ -796,19 +914,20 @@ static void twin_call(struct model *a, struct model *b)
     } else {
         left = lent_release(&a->heap, a->block[i].mem);
         right = lent_release(&b->heap, a->block[i].mem);
+        change.from = a->block[i];
         let_go(a, i);
     }
     a->calls++;
     EXPECT(a, left.no == right.no && left.mem == right.mem
                   && left.usable == right.usable,
            "twins answer differently");
-    EXPECT(a, same_record(&a->heap, &b->heap), "twins' records differ");
-    if (left.no == 0 && left.mem != 0) {
-        random_bytes(&a->r, a->heap.arena + left.mem, left.usable);
-        random_bytes(&b->r, b->heap.arena + left.mem, left.usable);
-    }
+    EXPECT(a, same_but_key(&a->heap, &b->heap), "twins' records differ");
+    if (left.no == 0 && left.mem != 0)
+        change.to = (struct held){ left.mem, left.usable };
+    return change;
 }
 
+/* Every byte in which they may differ does. */
 static void twins(uint32_t rounds)
 {
     struct sums sum = { 0 };
@@ -819,10 +938,108 @@ static void twins(uint32_t rounds)
         b.r.state += 12345;
         random_bytes(&a.r, a.heap.arena, a.heap.length);
         random_bytes(&b.r, b.heap.arena, b.heap.length);
-        lent_open(&a.heap);
-        lent_open(&b.heap);
-        while (a.calls < 300 && !group_failed())
-            twin_call(&a, &b);
+        lent_open(&a.heap, random_key(&a.r));
+        lent_open(&b.heap, random_key(&b.r));
+        while (a.calls < 300 && !group_failed()) {
+            struct held to = twin_call(&a, &b).to;
+            random_bytes(&a.r, a.heap.arena + to.mem, to.usable);
+            random_bytes(&b.r, b.heap.arena + to.mem, to.usable);
+        }
+        add_counts(&sum, &a);
+        model_free(&a);
+        model_free(&b);
+    }
+    remark(", %llu calls", (unsigned long long)sum.calls);
+}
+
+/* ---- the same calls and writes with two keys ---- */
+
+static uint8_t written[PLAIN_ARENA_MAX]; /* 0xff where a holder has written */
+
+/* A resized block's written bytes go along; what is new is not written. */
+static void follow_written(const struct change *change)
+{
+    static uint8_t kept[PLAIN_ARENA_MAX];
+    struct held from = change->from, to = change->to;
+    uint32_t both = from.usable < to.usable ? from.usable : to.usable;
+
+    memcpy(kept, written + from.mem, both);
+    memset(written + from.mem, 0, from.usable);
+    memset(written + to.mem, 0, to.usable);
+    memcpy(written + to.mem, kept, both);
+}
+
+/* Some bytes of some block, the same in both. */
+static void twin_writes(struct model *a, struct model *b)
+{
+    if (a->blocks == 0)
+        return;
+    struct held block = a->block[random_below(&a->r, a->blocks)];
+    uint32_t from = random_below(&a->r, block.usable);
+    uint32_t length = random_below(&a->r, block.usable - from + 1);
+    random_bytes(&a->r, a->heap.arena + block.mem + from, length);
+    memcpy(b->heap.arena + block.mem + from, a->heap.arena + block.mem + from,
+           length);
+    memset(written + block.mem + from, 0xff, length);
+}
+
+static void written_is_same(struct model *a, const struct model *b)
+{
+    uint8_t differs = 0;
+    for (size_t i = 0; i < a->heap.length; i++)
+        differs |= (a->heap.arena[i] ^ b->heap.arena[i]) & written[i];
+    EXPECT(a, differs == 0, "with another key a written byte differs");
+}
+
+/* From the same first bytes: only the keys of cached chunks ever differ. */
+static void all_but_keys_is_same(struct model *a, struct model *b)
+{
+    copy_lent(&b->parts, &b->heap);
+    plain_read(&view, a->heap.arena, (uint32_t)a->heap.length, a->heap.record);
+    for (uint32_t i = 0; i < view.tiles; i++) {
+        uint32_t c = view.tile[i].at;
+        if (view.tile[i].state != PLAIN_CACHED)
+            continue;
+        EXPECT(a, second_word(&a->heap, c) == plain_key(a->heap.record)
+                      && second_word(&b->heap, c) == plain_key(b->heap.record),
+               "a cached chunk of two heaps has not its key");
+        plain_put(b->parts.arena + c + 24, 8, second_word(&a->heap, c));
+    }
+    EXPECT(a, same_arena(&a->heap, &b->parts),
+           "with another key another byte than that differs");
+}
+
+static void with_two_keys(struct model *a, struct model *b, bool same_bytes)
+{
+    uint64_t key = random_key(&a->r), other = random_key(&a->r);
+
+    random_bytes(&a->r, a->heap.arena, a->heap.length);
+    random_bytes(&b->r, b->heap.arena, b->heap.length);
+    if (same_bytes)
+        copy_lent(&b->heap, &a->heap);
+    memset(written, 0, sizeof written);
+    lent_open(&a->heap, key);
+    lent_open(&b->heap, key == other ? ~key : other);
+    while (a->calls < 300 && !group_failed()) {
+        struct change change = twin_call(a, b);
+        follow_written(&change);
+        twin_writes(a, b);
+        written_is_same(a, b);
+        if (same_bytes)
+            all_but_keys_is_same(a, b);
+    }
+}
+
+static void two_keys(uint32_t rounds)
+{
+    struct sums sum = { 0 };
+
+    group("two keys: the same answers, records but for the key, and bytes");
+    for (uint64_t seed = 1; seed <= rounds && !group_failed(); seed++) {
+        uint64_t state = seed + (3u << 20);
+        struct model a = model_new(state, 32768), b = model_new(state, 32768);
+        b.r.state += 54321;
+        with_two_keys(&a, &b, seed % 2 == 0);
         add_counts(&sum, &a);
         model_free(&a);
         model_free(&b);
@@ -887,5 +1104,6 @@ int main(int argc, char **argv)
     between_fast_chunks(4000 / share);
     among_fast_chunks(600 / share);
     twins(400 / share);
+    two_keys(160 / share);
     return finish();
 }

@@ -1,14 +1,12 @@
 /*
  * Request (i) of document 02: a trace for each way a resize can go, at and
- * beside its boundary, with what request (vi) changes of it. Every expected
- * number here was worked out by hand from the documents.
+ * beside its boundary, with what requests (vi) and (viii) change of it. Every
+ * expected number here was worked out by hand from the documents.
  */
 #include <string.h>
 
 #include "plain.h"
 #include "traces.h"
-
-#define UNWRITTEN 0xa5a5a5a5a5a5a5a5u /* as start fills the arena */
 
 /* Marks a block's usable bytes, so that they can be told later. */
 static void fill(uint32_t mem, uint32_t usable)
@@ -52,11 +50,14 @@ static void null_and_zero(void)
     grants_row(2, 24, 16, 32);
     releases(16);
     cache_is(0, 0, 1);
+    second_is(0, KEY);
     resizes(0, 24, 16, 24); /* step 1 */
     cache_is(0, NONE, 0);
+    second_is(0, 0);
     resizes(0, 0, 80, 24); /* null and 0: a grant of 0 */
     resizes(48, 0, 0, 0);
     cache_is(0, 32, 1);
+    second_is(32, KEY);
     refuses_resize(48, 0, 4);
     resizes(16, 0, 0, 0);
     cache_is(0, 0, 2);
@@ -126,7 +127,7 @@ static void unsound_and_unshaped(void)
         bad.length = i % 2 == 0 ? 1023 : 16;
         CHECK(lent_resize(&bad, mem[i], 262145).no == 1, "no 1 by length");
         bad = heap;
-        bad.record_len = i % 2 == 0 ? 1571 : 0;
+        bad.record_len = i % 2 == 0 ? 1572 : 0;
         CHECK(lent_resize(&bad, mem[i], 24).no == 1, "no 1 by record");
     }
     CHECK(same_arena(&heap, &before) && same_record(&heap, &before),
@@ -160,10 +161,13 @@ static void large_enough(void)
     eight_is(176 + 16, PLAIN_NONE64);
     eight_is(208 + 8, 32 + 1);
     cache_is(0, 176, 1);
+    second_is(176, KEY);
     resizes(16, 1, 16, 24);
     eight_is(8, 32 + 1);
     eight_is(32 + 8, 144 + 1);
     cache_is(7, 32, 1);
+    second_is(32, KEY);
+    filled(16, 24);
     resizes(16, 24, 16, 24);
     stop();
 }
@@ -181,6 +185,7 @@ static void rest_on_a_fast_list(void)
     fast_is(0, 400);
     eight_is(400 + 8, 32 + 1);
     eight_is(400 + 16, PLAIN_NONE64);
+    second_is(400, UNWRITTEN);
     eight_is(432 + 8, 32 + 1);
     stop();
 }
@@ -344,6 +349,7 @@ static void with_the_chunk_behind(void)
         eight_is(1120 + 8, 32 + 1);
         eight_is(1152 + 8, 32 + 1); /* a cached rest: the next P is set */
         cache_is(0, 1120, 1);
+        second_is(1120, KEY);
         stop();
 
         start_before_a_binned_chunk(sorted); /* a large rest */
@@ -503,6 +509,7 @@ static void right_behind_and_fast(void)
     eight_is(384 + 8, 32 + 1); /* 32+48 less 48 */
     eight_is(416 + 8, 32 + 1);
     cache_is(0, 384, 1);
+    second_is(384, KEY);
     stop();
 }
 
@@ -534,6 +541,42 @@ static void right_behind_and_grown(void)
     stop();
 }
 
+/*
+ * Seven of 32 and seven of 1,008 cached; the block of 32 at 7,280; behind it a
+ * fast chunk of 32 and one of 1,008 in unsorted. Step 4 joins these two, and
+ * step 5 caches the whole and grants it from there: the 0 lies in the block.
+ */
+static void right_behind_and_cached(void)
+{
+    group("resize: a chunk right behind it, cached and taken by step 5");
+    start(16384);
+    grants_row(7, 24, 16, 32);
+    grants_row(7, 1000, 240, 1008);
+    grants(24, 7296, 24); /* the block */
+    grants(24, 7328, 24);
+    grants(1000, 7360, 1000);
+    grants(24, 8368, 24);
+    fill(7296, 24);
+    releases_row(7, 16, 32);
+    releases_row(7, 240, 1008);
+    releases(7328);
+    releases(7360);
+    fast_is(0, 7312);
+    bin_is(1, 7344, 7344);
+    second_is(7312, UNWRITTEN);
+    resizes(7296, 1032, 7296, 1032);
+    filled(7296, 24);
+    cache_is(63, NONE, 0);
+    bin_is(1, NONE, NONE);
+    eight_is(7280 + 8, 1040 + 1);
+    eight_is(7312 + 8, 1040 + 1); /* the header inside the block stays */
+    eight_is(7312 + 16, PLAIN_NONE64);
+    second_is(7312, 0);
+    fast_is(0, 8320); /* the rest */
+    eight_is(8320 + 8, 32 + 1);
+    stop();
+}
+
 /* ---- a new block elsewhere ---- */
 
 static void copied(void)
@@ -549,8 +592,9 @@ static void copied(void)
     eight_is(80 + 8, 112 + 1);
     cache_is(1, 0, 1);
     eight_is(8, 48 + 1);
-    eight_is(16, PLAIN_NONE64); /* the link; the other old bytes stay */
-    for (uint32_t i = 8; i < 40; i++)
+    eight_is(16, PLAIN_NONE64); /* link and key; the other old bytes stay */
+    second_is(0, KEY);
+    for (uint32_t i = 16; i < 40; i++)
         CHECK(heap.arena[16 + i] == (uint8_t)(i * 7 + 1),
               "byte %u of the old block changed", i);
     top_is(192, 4096);
@@ -624,6 +668,7 @@ static void start_with_seven_fast(void)
     grants_row(14, 40, 16, 48);
     grants(24, 688, 24); /* the block */
     grants(24, 720, 24);
+    fill(688, 24);
     releases_row(14, 16, 48);
     cache_is(1, 288, 7);
     fast_is(1, 624);
@@ -641,8 +686,15 @@ static void step_2_past_the_cache(void)
     eight_is(480 + 16, 528);
     eight_is(528 + 16, 576);
     eight_is(576 + 16, 144);
+    for (uint32_t c = 480; c <= 576; c += 48)
+        second_is(c, KEY);
+    second_is(144, KEY); /* cached all the time */
+    second_is(192, 0);   /* granted from there */
+    filled(640, 24);
     fast_is(1, 432);
+    second_is(432, UNWRITTEN);
     cache_is(0, 672, 1);
+    second_is(672, KEY);
     stop();
 
     start_with_seven_fast(); /* the list is full: nothing is moved */
@@ -683,6 +735,9 @@ static void step_3_past_the_cache(void)
     cache_is(11, fenced(9), 7);
     eight_is(fenced(9) + 16, fenced(8));
     eight_is(fenced(8) + 16, fenced(4));
+    second_is(fenced(9), KEY);
+    second_is(fenced(8), KEY);
+    second_is(fenced(10), fenced(11));
     bin_is(13, fenced(13), fenced(10));
     for (uint32_t i = 7; i < 14; i++) /* the next P's */
         eight_is(fenced(i) + 208 + 8, i < 10 ? 32 + 1 : 32);
@@ -704,6 +759,9 @@ static void step_5_past_the_cache(void)
     cache_is(11, fenced(8), 7);
     eight_is(fenced(8) + 16, fenced(7));
     eight_is(fenced(7) + 16, fenced(4));
+    second_is(fenced(8), KEY);
+    second_is(fenced(7), KEY);
+    second_is(fenced(10), fenced(11));
     bin_is(1, fenced(13), fenced(10));
     stop();
 
@@ -714,9 +772,13 @@ static void step_5_past_the_cache(void)
     stop();
 
     start_fenced(8, 2, false); /* the head granted is the one just cached */
+    fill(224, 24);
     resizes(224, 200, fenced(7) + 16, 200);
+    filled(fenced(7) + 16, 24); /* which covers the 0 */
     cache_is(11, fenced(4), 5);
     bin_is(1, NONE, NONE);
+    for (uint32_t i = 0; i < 7; i++)
+        second_is(fenced(i), i < 5 ? KEY : 0);
     stop();
 }
 
@@ -856,6 +918,7 @@ int main(void)
     own_p_is_cleared_meanwhile();
     right_behind_and_fast();
     right_behind_and_grown();
+    right_behind_and_cached();
     copied();
     not_the_cache();
     step_2_past_the_cache();

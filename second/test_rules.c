@@ -1,7 +1,7 @@
 /*
  * Document 01's figures, and traces for the places that are easy to get
- * wrong, with those of requests (vi) and (vii) of document 02. Every expected
- * number here was worked out by hand from the documents.
+ * wrong, with those of requests (vi), (vii) and (viii) of document 02. Every
+ * expected number here was worked out by hand from the documents.
  */
 #include <string.h>
 
@@ -23,7 +23,7 @@ static void request_sizes(void)
         start(4096);
         grants(figure[i][0], 16, size - 8);
         word_is("top", 1, size);
-        eight_is(size, 0xa5a5a5a5a5a5a5a5u); /* the top's cut notes no end */
+        eight_is(size, UNWRITTEN); /* the top's cut notes no end */
         eight_is(size + 8, 4096 - size + 1);
         grants(0, size + 16, 24);
         releases(16);
@@ -103,7 +103,7 @@ static void refused_open(size_t length, size_t record_len)
     struct lent bytes = lend(length, 0x5a), before = lend(length, 0x5a);
 
     bytes.record_len = record_len;
-    struct second_answer a = lent_open(&bytes);
+    struct second_answer a = lent_open(&bytes, KEY);
     CHECK(a.no == 1 && a.mem == 0 && a.usable == 0,
           "open of %zu with a record of %zu answers %u", length, record_len,
           a.no);
@@ -111,9 +111,9 @@ static void refused_open(size_t length, size_t record_len)
     if (record_len != PLAIN_RECORD_BYTES)
         CHECK(same_record(&bytes, &before), "a record of %zu bytes was written",
               record_len);
-    for (unsigned i = 0; record_len == PLAIN_RECORD_BYTES && i < 393; i++)
+    for (unsigned i = 0; record_len == PLAIN_RECORD_BYTES && i < 395; i++)
         CHECK(plain_word(bytes.record, i)
-                  == (i == 0 || (i >= 67 && i < 131) ? 0 : NONE),
+                  == (i == 0 || (i >= 67 && i < 131) || i >= 393 ? 0 : NONE),
               "word %u of a refused open's record", i);
     give_back(&bytes);
     give_back(&before);
@@ -126,6 +126,8 @@ static void opened(uint32_t length)
         uint32_t zero = i == 1 || (i >= 67 && i < 131);
         word_is("opened word", i, i == 0 ? length : zero ? 0 : NONE);
     }
+    word_is("the key's low half", 393, 0xe8c4620a);
+    word_is("the key's high half", 394, 0x9d3f5b17);
     eight_is(8, length + 1);
     for (uint32_t i = 0; i < length; i++)
         CHECK(heap.arena[i] == 0xa5 || (i >= 8 && i < 16),
@@ -145,15 +147,18 @@ static void opens(void)
     }
     group("other shapes are refused, and leave what document 01 says");
     for (unsigned i = 0; i < sizeof bad / sizeof bad[0]; i++) {
-        refused_open(bad[i], PLAIN_RECORD_BYTES);
-        refused_open(bad[i], 1571);
+        refused_open(bad[i], 1580);
+        refused_open(bad[i], 1572);
     }
-    refused_open(256, 1571);
+    for (size_t record_len = 1568; record_len <= 1592; record_len++)
+        if (record_len != 1580)
+            refused_open(256, record_len);
     refused_open(256, 0);
 
     group("a closed record makes later calls answer 3");
     start(256);
-    CHECK(second_open(heap.arena, 255, heap.record, heap.record_len).no == 1,
+    CHECK(second_open(heap.arena, 255, heap.record, heap.record_len, KEY).no
+              == 1,
           "an arena of 255 bytes was opened");
     CHECK(lent_audit(&heap).kind == SECOND_RECORD, "a closed record is sound");
     CHECK(lent_grant(&heap, 24).no == 3 && lent_release(&heap, 0).no == 3
@@ -258,6 +263,7 @@ static void split_with_one_cached(void)
     cache_is(11, NONE, 0);
     grants(200, 2032, 200);
     cache_is(11, 1456, 1);
+    second_is(1456, KEY);
     word_is("last remainder", 2, 2224);
     bin_is(1, 2224, 2224);
     stop();
@@ -502,7 +508,7 @@ static void fast_moves_reversed(void)
 static void record_is_new(void)
 {
     struct lent fresh = lend(heap.length, 0);
-    lent_open(&fresh);
+    lent_open(&fresh, KEY);
     CHECK(same_record(&heap, &fresh), "the record is not the newly opened one");
     eight_is(8, heap.length + 1);
     give_back(&fresh);
@@ -880,6 +886,259 @@ static void emptying_halfway(void)
     }
 }
 
+/* ---- document 02, (viii): the key ---- */
+
+/* What the holder of the chunk at c leaves in its second word. */
+static uint64_t data(uint32_t c)
+{
+    return 0xda7a000000000000u + c;
+}
+
+/* Blocks of 32, one after the other, with their holders' words. */
+static void start_row(uint32_t length, uint32_t count)
+{
+    start(length);
+    for (uint32_t i = 0; i < count; i++) {
+        grants(24, 32 * i + 16, 24);
+        plain_put(heap.arena + 32 * i + 24, 8, data(32 * i));
+    }
+}
+
+static void cached_and_taken(void)
+{
+    group("key: in the second word of a cached chunk, 0 when it is taken");
+    start_row(1024, 3);
+    releases(48);
+    second_is(32, KEY);
+    eight_is(32 + 16, PLAIN_NONE64);
+    eight_is(64, UNWRITTEN); /* its last usable bytes */
+    releases(16);
+    second_is(0, KEY);
+    eight_is(16, 32);
+    second_is(32, KEY);
+    second_is(64, data(64));
+    grants(0, 16, 24);
+    second_is(0, 0);
+    eight_is(16, 32); /* its link stays */
+    second_is(32, KEY);
+    grants(24, 48, 24);
+    second_is(32, 0);
+    grants(24, 112, 24); /* from the top: as it was */
+    second_is(96, UNWRITTEN);
+    stop();
+}
+
+static void every_cache_list(void)
+{
+    group("key: a wrong one names its list, whichever it is");
+    start(65536);
+    for (unsigned k = 0; k < 64; k++)
+        releases(lent_grant(&heap, 24 + 16 * k).mem);
+    for (unsigned k = 0; k < 64; k++) {
+        uint32_t c = plain_word(heap.record, plain_cache_head(k));
+        for (unsigned bit = 0; bit < 64; bit++) {
+            plain_put(heap.arena + c + 24, 8, KEY ^ ((uint64_t)1 << bit));
+            struct second_fault f = lent_audit(&heap);
+            CHECK(f.no == 0 && f.kind == SECOND_CACHE && f.number == k,
+                  "bit %u of the key in list %u: %u %u %u", bit, k, f.no,
+                  f.kind, f.number);
+            CHECK(lent_audit_without_keys(&heap).kind == SECOND_SOUND,
+                  "a key is asked of a heap of version 1");
+        }
+        plain_put(heap.arena + c + 24, 8, KEY);
+        CHECK(lent_sound(&heap), "not sound with all keys");
+    }
+    stop();
+}
+
+/* The head, the last and those between; the eighth is fast, and has none. */
+static void wrong_keys_in_a_list(void)
+{
+    group("key: a wrong one anywhere in a list of seven");
+    start_row(1024, 8);
+    for (uint32_t i = 0; i < 8; i++)
+        releases(32 * i + 16);
+    for (uint32_t i = 0; i < 8; i++) {
+        plain_put(heap.arena + 32 * i + 24, 8, 0);
+        struct second_fault f = lent_audit(&heap);
+        CHECK(f.kind == (i < 7 ? SECOND_CACHE : SECOND_SOUND) && f.number == 0,
+              "0 for the key at %u: fault %u %u", 32 * i, f.kind, f.number);
+        CHECK(lent_grant(&heap, 262144).no == (i < 7 ? 3 : 5),
+              "a grant with a wrong key at %u", 32 * i);
+        plain_put(heap.arena + 32 * i + 24, 8, KEY);
+    }
+    stop();
+}
+
+static void key_and_fast(void)
+{
+    group("key: a fast chunk gets none, step 2 writes it where it caches");
+    start_row(2048, 12);
+    for (uint32_t i = 0; i < 12; i++)
+        releases(32 * i + 16);
+    cache_is(0, 32 * 6, 7);
+    fast_is(0, 32 * 11);
+    for (uint32_t i = 0; i < 12; i++)
+        second_is(32 * i, i < 7 ? KEY : data(32 * i));
+    for (uint32_t i = 0; i < 7; i++) {
+        grants(24, 32 * (6 - i) + 16, 24);
+        second_is(32 * (6 - i), 0);
+    }
+    grants(24, 32 * 11 + 16, 24);
+    second_is(32 * 11, data(32 * 11)); /* from the fast list, as it was */
+    cache_is(0, 32 * 7, 4);
+    for (uint32_t i = 7; i < 11; i++)
+        second_is(32 * i, KEY);
+    stop();
+}
+
+/* Sorted, so that bin 13 is those from 13 to 7, each 240 apart. */
+static void key_and_small_bin(void)
+{
+    group("key: a chunk from its bin keeps its back link, those cached get it");
+    release_fenced(14);
+    refuses(20000, 5);
+    bin_is(13, fenced(13), fenced(7));
+    for (uint32_t i = 0; i < 7; i++)
+        second_is(fenced(i), 0); /* taken from the cache meanwhile */
+    grants(200, fenced(7) + 16, 200);
+    second_is(fenced(7), fenced(8));
+    cache_is(11, fenced(13), 6);
+    for (uint32_t i = 8; i < 14; i++)
+        second_is(fenced(i), KEY);
+    grants(200, fenced(13) + 16, 200);
+    second_is(fenced(13), 0);
+    second_is(fenced(12), KEY);
+    stop();
+}
+
+static void key_and_unsorted(void)
+{
+    group("key: step 5 writes it where it caches, and 0 in the head it grants");
+    release_fenced(10);
+    second_is(fenced(8), fenced(9)); /* unsorted is 9, 8, 7 */
+    grants(200, fenced(9) + 16, 200);
+    second_is(fenced(9), 0);
+    second_is(fenced(8), KEY);
+    second_is(fenced(7), KEY);
+    stop();
+
+    release_fenced(16); /* the eighth equal was never cached */
+    grants(200, fenced(14) + 16, 200);
+    second_is(fenced(14), fenced(15));
+    for (uint32_t i = 7; i < 14; i++)
+        second_is(fenced(i), KEY);
+    second_is(fenced(15), PLAIN_NONE64);
+    stop();
+}
+
+static void key_and_emptying(void)
+{
+    group("key: an emptying writes 0, which only a back link then covers");
+    start_with_all_kinds();
+    second_is(1680, UNWRITTEN); /* the fast one */
+    for (uint32_t i = 0; i < 7; i++) {
+        second_is(240 * i, KEY);
+        second_is(240 * i + 32, KEY);
+    }
+    empties();
+    second_is(1680, UNWRITTEN);
+    for (uint32_t i = 0; i < 7; i++) {
+        second_is(240 * i, 0);
+        second_is(240 * i + 32, i == 0 ? PLAIN_NONE64 : 240 * i - 208);
+    }
+    joins();
+    second_is(0, PLAIN_NONE64); /* first of the whole, and of unsorted */
+    for (uint32_t i = 1; i < 7; i++)
+        second_is(240 * i, 0); /* inside it */
+    second_is(1680, UNWRITTEN);
+    stop();
+
+    start_with_all_kinds(); /* a joining takes nothing from the cache */
+    joins();
+    for (uint32_t i = 0; i < 7; i++) {
+        second_is(240 * i, KEY);
+        second_is(240 * i + 32, KEY);
+    }
+    stop();
+
+    start(1024); /* joined with the top: no link covers it */
+    grants(200, 16, 200);
+    releases(16);
+    second_is(0, KEY);
+    empties();
+    word_is("top", 1, 0);
+    eight_is(16, PLAIN_NONE64);
+    second_is(0, 0);
+    stop();
+
+    start(4096); /* joined with the chunk before it: neither */
+    grants(1112, 16, 1112);
+    grants(200, 1136, 200);
+    grants(24, 1344, 24);
+    releases(16);
+    releases(1136);
+    second_is(1120, KEY);
+    empties();
+    eight_is(8, 1328 + 1);
+    eight_is(1120 + 8, 208);
+    second_is(1120, 0);
+    second_is(0, PLAIN_NONE64);
+    stop();
+}
+
+/* Any number is a key, 0 and those that could be links too. */
+static void any_key(void)
+{
+    static const uint64_t key[] = { 0, 1, 32, PLAIN_NONE32, PLAIN_NONE64,
+                                    (uint64_t)1 << 63,
+                                    PLAIN_NONE64 - PLAIN_NONE32 };
+
+    group("key: 0, all ones and any other");
+    start(1024);
+    for (unsigned i = 0; i < sizeof key / sizeof key[0]; i++) {
+        CHECK(lent_open(&heap, key[i]).no == 0, "open refused");
+        CHECK(plain_get(heap.record + 1572, 8) == key[i],
+              "the record's key is not the one given");
+        grants(24, 16, 24);
+        grants(24, 48, 24);
+        releases(16);
+        releases(48);
+        second_is(0, key[i]);
+        second_is(32, key[i]);
+        plain_put(heap.arena + 32 + 24, 8, ~key[i]);
+        CHECK(lent_audit(&heap).kind == SECOND_CACHE, "the key is not asked");
+        plain_put(heap.arena + 32 + 24, 8, key[i]);
+        grants(24, 48, 24);
+        second_is(32, 0);
+    }
+    stop();
+}
+
+/* What is left of the heap before is as any other byte. */
+static void opened_with_another_key(void)
+{
+    group("key: opened again with another one");
+    start_row(1024, 3);
+    releases(16);
+    releases(48);
+    CHECK(lent_open(&heap, ~KEY).no == 0, "open refused");
+    second_is(0, KEY);
+    second_is(32, KEY);
+    CHECK(lent_sound(&heap), "an old key is asked after");
+    grants(24, 16, 24);
+    grants(24, 48, 24);
+    second_is(0, KEY); /* from the top: nothing is cleared */
+    releases(16);
+    second_is(0, ~KEY);
+    second_is(32, KEY);
+    plain_put(heap.arena + 24, 8, KEY);
+    struct second_fault f = lent_audit(&heap);
+    CHECK(f.kind == SECOND_CACHE && f.number == 0,
+          "a cached chunk with the old key: fault %u %u", f.kind, f.number);
+    stop();
+}
+
 int main(void)
 {
     request_sizes();
@@ -906,5 +1165,14 @@ int main(void)
     pushes();
     consolidation_yields();
     emptying_halfway();
+    cached_and_taken();
+    every_cache_list();
+    wrong_keys_in_a_list();
+    key_and_fast();
+    key_and_small_bin();
+    key_and_unsorted();
+    key_and_emptying();
+    any_key();
+    opened_with_another_key();
     return finish();
 }

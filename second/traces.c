@@ -7,7 +7,7 @@ struct lent heap;
 void start(uint32_t length)
 {
     heap = lend(length, 0xa5);
-    struct second_answer a = lent_open(&heap);
+    struct second_answer a = lent_open(&heap, KEY);
     CHECK(a.no == 0 && a.mem == 0 && a.usable == 0, "open of %u answers %u",
           length, a.no);
     CHECK(lent_sound(&heap), "a newly opened arena of %u is not sound", length);
@@ -90,4 +90,9 @@ void eight_is(uint32_t at, uint64_t expected)
     uint64_t v = plain_get(heap.arena + at, 8);
     CHECK(v == expected, "the number at %u is %llu, not %llu", at,
           (unsigned long long)v, (unsigned long long)expected);
+}
+
+void second_is(uint32_t c, uint64_t expected)
+{
+    eight_is(c + 24, expected);
 }

@@ -12,9 +12,18 @@
 
 #define NONE UINT32_MAX
 
+/* No byte of it occurs twice, so that a turned or a cut one shows. */
+#define KEY 0x9d3f5b17e8c4620au
+
+/* Eight bytes of the arena that nobody has written since start. */
+#define UNWRITTEN 0xa5a5a5a5a5a5a5a5u
+
 extern struct lent heap;
 
-/* Lends and opens an arena of that length, filled with 0xa5; gives it back. */
+/*
+ * Lends an arena of that length, filled with 0xa5, and opens it with the key;
+ * gives it back.
+ */
 void start(uint32_t length);
 void stop(void);
 
@@ -33,5 +42,8 @@ void cache_is(unsigned k, uint32_t head, uint32_t count);
 void fast_is(unsigned k, uint32_t head);
 void bin_is(unsigned bin, uint32_t first, uint32_t last);
 void eight_is(uint32_t at, uint64_t expected);
+
+/* What stands in the second word of the chunk at c. */
+void second_is(uint32_t c, uint64_t expected);
 
 #endif

@@ -3,14 +3,15 @@
  * the same bytes; answer, every record byte and every arena byte must come out
  * the same, and so must the audits after it. What the documents say outright
  * (refusals that write nothing, the bytes that a resized block and all others
- * keep, demand 3, that a bigger arena changes nothing, the figures marked 'run
- * and compared') is checked on the archive by itself as well.
+ * keep, demand 3, that a bigger arena and another key change nothing, the
+ * figures marked 'run and compared') is checked on the archive by itself as
+ * well.
  *
  * Seeds are fixed: a run is the same everywhere. The argument, a number, makes
  * it that many times as long, with further seeds. This file has the order of
- * the groups; figures.c, shapes.c, heaps.c, bigger.c, images.c and stack.c have
- * the groups, pair.c has one call on both programs, holders.c the holders of
- * blocks and demand 3, guarded.c buffers between guards.
+ * the groups; figures.c, shapes.c, heaps.c, bigger.c, keys.c, images.c and
+ * stack.c have the groups, pair.c has one call on both programs, holders.c the
+ * holders of blocks and demand 3, guarded.c buffers between guards.
  */
 #include "groups.h"
 #include "pair.h"
@@ -78,6 +79,10 @@ int main(int argc, char **argv)
     bigger_arenas(4000 * times);
     yields_with_the_top(800 * times);
     premises_needed();
+    key_places();
+    wrong_keys(1500 * times);
+    old_keys(40 * times);
+    two_keys(300 * times);
     sound_heaps("random sound heaps up to 8,192", 8192, 8000 * times);
     sound_heaps("random sound heaps up to 262,144", 262144, 200 * times);
     flawed_heaps(2000 * times);
@@ -98,6 +103,7 @@ int main(int argc, char **argv)
     image_short_files();
     image_lengths();
     image_fields();
+    image_versions();
     image_writes();
     images_past_32_bits();
     sound_images(2000 * times);
@@ -109,6 +115,10 @@ int main(int argc, char **argv)
                   500 * times);
     harmed_images("images of bytes that are no heap", harm_all, 14 << 20,
                   200 * times);
+    harmed_images("images of heaps with a wrong key", harm_key, 21 << 20,
+                  300 * times);
+    old_sound_images(1000 * times);
+    old_harmed_images(1000 * times);
     continued_images(60 * times);
     stack_taken(600 * times);
     the_run();

@@ -27,6 +27,8 @@
 #include "plain.h"
 #include "random_heap.h"
 
+#define RECORD HEAP_RECORD_BYTES
+#define KEY 0x4c9e07d1b8f2365au /* any serves: no call's work depends on it */
 #define DAY_BYTES 49152
 #define DAY_CALLS 300
 #define CURVES 4
@@ -129,39 +131,39 @@ static uint32_t call(enum who who, struct heap *h, char letter, uint64_t n)
     if (who == ARCHIVE)
         switch (letter) {
         case 'A':
-            return heap_open(h->arena, h->length, h->record, 1572).no;
+            return heap_open(h->arena, h->length, h->record, RECORD, KEY).no;
         case 'G':
-            return heap_grant(h->arena, h->length, h->record, 1572, n).mem;
+            return heap_grant(h->arena, h->length, h->record, RECORD, n).mem;
         case 'R':
-            return heap_release(h->arena, h->length, h->record, 1572, n).no;
+            return heap_release(h->arena, h->length, h->record, RECORD, n).no;
         case 'E':
-            return heap_emptying(h->arena, h->length, h->record, 1572).no;
+            return heap_emptying(h->arena, h->length, h->record, RECORD).no;
         case 'J':
-            return heap_joining(h->arena, h->length, h->record, 1572).no;
+            return heap_joining(h->arena, h->length, h->record, RECORD).no;
         default:
-            return heap_audit(h->arena, h->length, h->record, 1572).kind;
+            return heap_audit(h->arena, h->length, h->record, RECORD).kind;
         }
     switch (letter) {
     case 'A':
-        return second_open(h->arena, h->length, h->record, 1572).no;
+        return second_open(h->arena, h->length, h->record, RECORD, KEY).no;
     case 'G':
-        return second_grant(h->arena, h->length, h->record, 1572, n).mem;
+        return second_grant(h->arena, h->length, h->record, RECORD, n).mem;
     case 'R':
-        return second_release(h->arena, h->length, h->record, 1572, n).no;
+        return second_release(h->arena, h->length, h->record, RECORD, n).no;
     case 'E':
-        return second_emptying(h->arena, h->length, h->record, 1572).no;
+        return second_emptying(h->arena, h->length, h->record, RECORD).no;
     case 'J':
-        return second_joining(h->arena, h->length, h->record, 1572).no;
+        return second_joining(h->arena, h->length, h->record, RECORD).no;
     default:
-        return second_audit(h->arena, h->length, h->record, 1572).kind;
+        return second_audit(h->arena, h->length, h->record, RECORD).kind;
     }
 }
 
 static uint32_t resize(enum who who, struct heap *h, uint64_t mem, uint64_t n)
 {
     if (who == ARCHIVE)
-        return heap_resize(h->arena, h->length, h->record, 1572, mem, n).mem;
-    return second_resize(h->arena, h->length, h->record, 1572, mem, n).mem;
+        return heap_resize(h->arena, h->length, h->record, RECORD, mem, n).mem;
+    return second_resize(h->arena, h->length, h->record, RECORD, mem, n).mem;
 }
 
 static uint32_t make(enum who who, struct heap *h, const struct call *c)

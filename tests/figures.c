@@ -116,8 +116,8 @@ void arenas(void)
         CHECK(both(&p, GRANT, n).no == 5, "arena 32 grants %u bytes",
               (unsigned)n);
     pair_free(&p);
-    refused_shape(&r, OPEN, 16, 1572);
-    refused_shape(&r, OPEN, 262160, 1572);
+    refused_shape(&r, OPEN, 16, 1580);
+    refused_shape(&r, OPEN, 262160, 1580);
 
     p = opened(262144, 262144);
     CHECK(both(&p, GRANT, 262105).no == 5, "262,105 bytes granted");
@@ -129,7 +129,7 @@ void arenas(void)
  * Runs words such as 8G200 (eight grants), R16, Z16,24 (block 16 resized to 24
  * bytes), E for an emptying, J for a joining; answers the last answer.
  */
-static struct second_answer run(struct pair *p, const char *script)
+struct second_answer run(struct pair *p, const char *script)
 {
     struct second_answer a = { 0, 0, 0 };
     while (*script != '\0') {

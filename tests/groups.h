@@ -9,7 +9,8 @@
 
 #include "pair.h"
 
-/* figures.c */
+/* figures.c; run has words such as 8G200, and answers the last answer */
+struct second_answer run(struct pair *p, const char *script);
 void worked_example(void);
 void traces(void);
 void requests(void);
@@ -27,7 +28,7 @@ void closed_heaps(void);
 
 /* heaps.c; a harm makes the archive's heap of a pair */
 typedef void harm(struct pair *);
-harm harm_field, harm_high, harm_bytes, harm_all;
+harm harm_field, harm_high, harm_bytes, harm_key, harm_all;
 void sequences(const char *name, uint32_t from, uint32_t to, uint32_t rounds,
                uint32_t calls);
 void in_turn(uint32_t rounds);
@@ -49,12 +50,19 @@ void bigger_arenas(uint32_t rounds);
 void yields_with_the_top(uint32_t rounds);
 void premises_needed(void);
 
+/* keys.c */
+void key_places(void);
+void wrong_keys(uint32_t rounds);
+void old_keys(uint32_t rounds);
+void two_keys(uint32_t rounds);
+
 /* images.c */
 void image_bytes(void);
 void image_headers(void);
 void image_short_files(void);
 void image_lengths(void);
 void image_fields(void);
+void image_versions(void);
 void image_writes(void);
 void images_past_32_bits(void);
 void sound_images(uint32_t rounds);
@@ -62,6 +70,8 @@ void harmed_images(const char *name, harm *do_harm, uint64_t seeds,
                    uint32_t rounds);
 harm harm_lists;
 void continued_images(uint32_t rounds);
+void old_sound_images(uint32_t rounds);
+void old_harmed_images(uint32_t rounds);
 
 /* stack.c */
 void stack_taken(uint32_t rounds);

@@ -382,13 +382,22 @@ void harm_high(struct pair *p)
         i--;
     const struct plain_tile *t = &view.tile[i];
     bool is_listed = t->state != PLAIN_LIVE && t->state != PLAIN_TOP;
+    bool has_second = is_listed && t->state != PLAIN_FAST; /* key, back link */
     uint32_t field = !t->p ? 0
-        : t->state == PLAIN_BINNED && random_chance(&p->r, 50) ? 24
-        : is_listed && random_chance(&p->r, 80)                ? 16
-                                                               : 8;
+        : has_second && random_chance(&p->r, 50) ? 24
+        : is_listed && random_chance(&p->r, 80)  ? 16
+                                                 : 8;
     uint64_t bit = (uint64_t)1 << (32 + random_below(&p->r, 32));
     plain_put(arena + t->at + field, 8,
               plain_get(arena + t->at + field, 8) ^ bit);
+}
+
+/* One cached chunk with another word than the key. */
+void harm_key(struct pair *p)
+{
+    random_heap(&p->r, p->ours.arena, (uint32_t)p->ours.length,
+                p->ours.record);
+    damage_key(&p->r, p->ours.arena, p->ours.record);
 }
 
 /* Bytes that are no heap, but for what an audit looks at first. */
@@ -446,12 +455,13 @@ void flawed_heaps(uint32_t rounds)
     /* The rules that a drawn heap seldom breaks are drawn more often. */
     static const enum flaw drawn[] = { FLAW_ORDER, FLAW_EIGHT, FLAW_ORDER,
                                        FLAW_EIGHT, FLAW_ORDER, FLAW_TOP,
-                                       FLAW_HOME,  FLAW_NEIGHBOURS };
+                                       FLAW_HOME,  FLAW_NEIGHBOURS,
+                                       FLAW_KEY };
     uint64_t before = tally.calls, unsound[FLAW_COUNT] = { 0 };
 
     group("heaps that break one rule throughout");
     for (uint64_t i = 1; i <= rounds && !group_failed(); i++) {
-        enum flaw flaw = drawn[i % 8];
+        enum flaw flaw = drawn[i % 9];
         struct pair p = flawed((1 << 20) + i, flaw);
         unsound[flaw] += both_audits(&p).kind != SECOND_SOUND;
         calls_on_any(&p, 1 + random_below(&p.r, 3));
@@ -505,7 +515,7 @@ void guards(uint32_t rounds)
                                      : random_length(&r, 16384);
         struct pair p = pair_new(seed, r, length);
         struct guarded arena = guard(length, i % 3 == 0 ? 0 : i % 17);
-        struct guarded record = guard(1572, i % 2 == 0 ? 0 : i % 13);
+        struct guarded record = guard(1580, i % 2 == 0 ? 0 : i % 13);
         struct lent own = p.ours;
         p.ours.arena = arena.bytes;
         p.ours.record = record.bytes;

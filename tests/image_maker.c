@@ -1,11 +1,14 @@
 /*
- * Writes random images for heapimage, each by its own seed, so that image i is
- * the same on every machine:
+ * Writes images for heapimage:
  *
- *     image_maker FOLDER COUNT    writes FOLDER/1 .. FOLDER/COUNT
+ *     image_maker FOLDER COUNT      writes FOLDER/1 .. FOLDER/COUNT
+ *     image_maker FOLDER samples    writes the samples of version 2 there
  *
- * Of sound heaps, of heaps damaged in many ways, and files that are spoilt.
+ * The former are random, each by its own seed, so that image i is the same on
+ * every machine: of both versions, of sound heaps, of heaps damaged in many
+ * ways, and files that are spoilt. The latter are those of tests/images.
  */
+#include <stdbool.h>
 #include <stdio.h>
 #include <stdlib.h>
 #include <string.h>
@@ -15,12 +18,12 @@
 #include "random_heap.h"
 
 #define HEADER 9u
-#define ARENA_AT (HEADER + PLAIN_RECORD_BYTES)
+#define OLD_RECORD_BYTES 1572u /* in an image of version 1 */
 #define LONGER 4096
 
 static uint8_t arena[PLAIN_ARENA_MAX];
 static uint8_t record[PLAIN_RECORD_BYTES];
-static uint8_t file[ARENA_AT + PLAIN_ARENA_MAX + LONGER];
+static uint8_t file[HEADER + PLAIN_RECORD_BYTES + PLAIN_ARENA_MAX + LONGER];
 static size_t file_length;
 
 /* A sound heap, or one that breaks a rule throughout, and damage to it. */
@@ -29,12 +32,26 @@ static void make_heap(struct random *r, uint32_t length)
     enum flaw flaw = random_chance(r, 80) ? FLAW_NONE
                                           : 1 + random_below(r, FLAW_COUNT - 1);
     flawed_heap(r, flaw, arena, length, record);
-    switch (random_below(r, 10)) {
+    switch (random_below(r, 12)) {
     case 0: case 1: case 2: damage_lists(r, arena, length, record); break;
     case 3: case 4: case 5: damage_field(r, arena, length, record); break;
     case 6: damage_bytes(r, arena, length, record); break;
+    case 7: damage_key(r, arena, record); break;
+    case 8: plain_put_key(record, random_key(r)); break;
     default: break;
     }
+}
+
+static void put_image(unsigned version, uint32_t length)
+{
+    size_t record_bytes = version == 1 ? OLD_RECORD_BYTES : PLAIN_RECORD_BYTES;
+
+    memcpy(file, "HPI", 3);
+    plain_put(file + 3, 2, version);
+    plain_put(file + 5, 4, length);
+    memcpy(file + HEADER, record, record_bytes);
+    memcpy(file + HEADER + record_bytes, arena, length);
+    file_length = HEADER + record_bytes + length;
 }
 
 static void make_image(struct random *r)
@@ -43,9 +60,7 @@ static void make_image(struct random *r)
         : random_length(r, random_chance(r, 10) ? PLAIN_ARENA_MAX : 8192);
 
     make_heap(r, length);
-    file_length = ARENA_AT + length;
-    second_write_image(arena, length, record, sizeof record, file,
-                       file_length);
+    put_image(random_chance(r, 40) ? 1 : 2, length);
 }
 
 /* Another length, near the file's own or far from it, allowed or not. */
@@ -72,11 +87,11 @@ static void lengthen(struct random *r)
 
 static void spoil(struct random *r)
 {
-    static const uint32_t version[] = { 0, 2, 3, 4, 256, 257, 65535 };
+    static const uint32_t version[] = { 0, 1, 2, 3, 4, 256, 257, 258, 65535 };
 
     switch (random_below(r, 6)) {
     case 0: random_bytes(r, file + random_below(r, HEADER), 1); break;
-    case 1: plain_put(file + 3, 2, version[random_below(r, 7)]); break;
+    case 1: plain_put(file + 3, 2, version[random_below(r, 9)]); break;
     case 2: plain_put(file + 5, 4, other_length(r)); break;
     case 3: file_length = random_below(r, 12); break;
     case 4: file_length = random_below(r, (uint32_t)file_length); break;
@@ -84,35 +99,90 @@ static void spoil(struct random *r)
     }
 }
 
-static int write_image(const char *folder, unsigned number)
+/* Ends the program if the file cannot be written whole. */
+static void write_image(const char *folder, const char *name)
 {
     char path[4096];
-    snprintf(path, sizeof path, "%s/%u", folder, number);
+    snprintf(path, sizeof path, "%s/%s", folder, name);
     FILE *out = fopen(path, "wb");
-    if (out == NULL)
-        return -1;
-    size_t written = fwrite(file, 1, file_length, out);
-    return fclose(out) != 0 || written != file_length ? -1 : 0;
+    bool whole = out != NULL
+        && fwrite(file, 1, file_length, out) == file_length;
+    if (out == NULL || fclose(out) != 0 || !whole) {
+        fprintf(stderr, "image_maker: cannot write %s\n", path);
+        exit(1);
+    }
+}
+
+static void write_random(const char *folder, unsigned images)
+{
+    for (unsigned i = 1; i <= images; i++) {
+        struct random r = { i };
+        char name[16];
+        make_image(&r);
+        while (random_chance(&r, 12))
+            spoil(&r);
+        snprintf(name, sizeof name, "%u", i);
+        write_image(folder, name);
+    }
+}
+
+/* ---- samples ---- */
+
+#define SAMPLE_BYTES 2048
+#define SAMPLE_KEY 0x9d3f5b17e8c4620au
+
+/* Grants and releases, such as 17G24 and R16. */
+static void perform(const char *calls)
+{
+    while (*calls != '\0') {
+        char *at;
+        unsigned long times = strtoul(calls, &at, 10);
+        char letter = *at;
+        uint64_t number = strtoul(at + 1, &at, 10);
+        for (unsigned long i = 0; i < (times == 0 ? 1 : times); i++)
+            if (letter == 'G')
+                second_grant(arena, SAMPLE_BYTES, record, sizeof record,
+                             number);
+            else
+                second_release(arena, SAMPLE_BYTES, record, sizeof record,
+                               number);
+        calls = *at == ' ' ? at + 1 : at;
+    }
+}
+
+/* The melt, with one byte of its image changed. */
+static void write_sample(const char *folder, const char *name, size_t at,
+                         uint8_t byte)
+{
+    memset(arena, 0xa5, SAMPLE_BYTES);
+    second_open(arena, SAMPLE_BYTES, record, sizeof record, SAMPLE_KEY);
+    perform("17G24 G1048 G100 G40 G200 R16 R48 R80 R112 R144 R176 R208 R240 "
+            "R272 R304 R336 R400 R432 R560 G1500 G72 R496 R1728 R1776");
+    file_length = HEADER + PLAIN_RECORD_BYTES + SAMPLE_BYTES;
+    second_write_image(arena, SAMPLE_BYTES, record, sizeof record, file,
+                       file_length);
+    file[at] = byte;
+    write_image(folder, name);
+}
+
+static void write_samples(const char *folder)
+{
+    write_sample(folder, "melt-2.hpi", 0, 'H');
+    write_sample(folder, "bad-key-2.hpi", 1741, 0x0b);
+    write_sample(folder, "bad-link-2.hpi", 1733, 0x68);
 }
 
 int main(int count, char **argument)
 {
+    bool samples = count == 3 && strcmp(argument[2], "samples") == 0;
     unsigned images = count == 3 ? (unsigned)atoi(argument[2]) : 0;
-    if (images == 0) {
-        fputs("image_maker: give a folder and how many images to write\n",
-              stderr);
-        return 2;
-    }
-    for (unsigned i = 1; i <= images; i++) {
-        struct random r = { i };
-        make_image(&r);
-        while (random_chance(&r, 12))
-            spoil(&r);
-        if (write_image(argument[1], i) != 0) {
-            fprintf(stderr, "image_maker: cannot write %s/%u\n", argument[1],
-                    i);
-            return 1;
-        }
-    }
-    return 0;
+
+    if (samples)
+        write_samples(argument[1]);
+    else if (images > 0)
+        write_random(argument[1], images);
+    else
+        fputs("image_maker: give a folder and how many images to write, or "
+              "'samples'\n", stderr);
+    return samples || images > 0 ? 0 : 2;
 }

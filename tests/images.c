@@ -2,7 +2,8 @@
  * A heap in a file: what the archive writes and reads against the second
  * program, and against what document 02 says outright. Every byte of file,
  * arena and record is compared, and each of them stands between guards. A heap
- * read in then goes on beside the one that was written.
+ * read in then goes on beside the one that was written, or, from an image of
+ * version 1, beside the one that the second program has read.
  */
 #define _DEFAULT_SOURCE
 #include "groups.h"
@@ -17,8 +18,14 @@
 #include "plain.h"
 
 #define HEADER 9u
-#define RECORD 1572u
-#define ARENA_AT (HEADER + RECORD)
+#define RECORD 1580u
+#define OLD_RECORD 1572u /* in an image of version 1: without the key */
+
+/* Where the arena stands in an image of that version, 1 or 2. */
+static size_t arena_at(uint64_t version)
+{
+    return HEADER + (version == 1 ? OLD_RECORD : RECORD);
+}
 
 /* The lengths of the three buffers of a call. */
 struct lengths {
@@ -35,10 +42,10 @@ static bool allowed(uint64_t length)
 /* By document 02 alone. */
 static bool is_image_of(const uint8_t *file, const struct lent *l)
 {
-    return memcmp(file, "HPI", 3) == 0 && plain_get(file + 3, 2) == 1
+    return memcmp(file, "HPI", 3) == 0 && plain_get(file + 3, 2) == 2
         && plain_get(file + 5, 4) == l->length
         && memcmp(file + HEADER, l->record, RECORD) == 0
-        && memcmp(file + ARENA_AT, l->arena, l->length) == 0;
+        && memcmp(file + arena_at(2), l->arena, l->length) == 0;
 }
 
 static struct lent between_guards(const struct guarded *arena,
@@ -53,7 +60,7 @@ static struct guarded write_both(struct pair *p, size_t slack)
 {
     size_t length = p->ours.length;
     struct guarded arena = guard(length, slack), record = guard(RECORD, slack);
-    struct guarded file = guard(ARENA_AT + length, slack);
+    struct guarded file = guard(arena_at(2) + length, slack);
     struct lent source = between_guards(&arena, &record);
     uint8_t *theirs = memory(file.length);
 
@@ -205,10 +212,130 @@ void continued_images(uint32_t rounds)
     remark(", %llu calls", (unsigned long long)(tally.calls - before));
 }
 
+/* ---- images of version 1 ---- */
+
+/* Put together here: nothing writes them any more. */
+static struct guarded old_image_of(const struct lent *l, size_t slack)
+{
+    struct guarded file = guard(arena_at(1) + l->length, slack);
+
+    memcpy(file.bytes, "HPI\1", 5);
+    plain_put(file.bytes + 5, 4, l->length);
+    memcpy(file.bytes + HEADER, l->record, OLD_RECORD);
+    memcpy(file.bytes + arena_at(1), l->arena, l->length);
+    return file;
+}
+
+/* By document 02: the key 0, and in a sound heap 0 in each cached chunk. */
+static struct lent as_read(const struct lent *l, bool sound)
+{
+    static struct plain_view view;
+    struct lent read = lend(l->length, 0);
+
+    copy_lent(&read, l);
+    plain_put_key(read.record, 0);
+    view.tiles = 0;
+    if (sound)
+        plain_read(&view, l->arena, (uint32_t)l->length, l->record);
+    for (uint32_t i = 0; i < view.tiles; i++)
+        if (view.tile[i].state == PLAIN_CACHED)
+            plain_put(read.arena + view.tile[i].at + 24, 8, 0);
+    return read;
+}
+
+/* Both read the pair's heap from such an image, and go on with that. */
+static struct second_fault old_trip(struct pair *p)
+{
+    size_t length = p->ours.length, slack = random_below(&p->r, 40);
+    struct second_fault audit = lent_audit_without_keys(&p->theirs);
+    struct lent expected = as_read(&p->theirs, audit.kind == SECOND_SOUND);
+    struct guarded file = old_image_of(&p->theirs, slack);
+    struct guarded arena = guard(length, slack), record = guard(RECORD, slack);
+    struct lent ours = between_guards(&arena, &record);
+
+    random_bytes(&p->r, arena.bytes, length);
+    random_bytes(&p->r, record.bytes, RECORD);
+    random_bytes(&p->r, p->theirs.record, RECORD);
+    struct second_fault f = read_ours(file.bytes, file.length, &ours);
+    struct second_fault g =
+        second_read_image(file.bytes, file.length, p->theirs.arena, length,
+                          p->theirs.record, RECORD);
+    tally.calls++;
+    tally.faults[audit.kind]++;
+    CHECK(same_fault(f, g) && same_fault(f, audit),
+          "seed %llu, arena of %zu: an image of version 1 is answered %u %u "
+          "%u, by the second program %u %u %u, by its audit %u %u %u",
+          (unsigned long long)p->seed, length, f.no, f.kind, f.number, g.no,
+          g.kind, g.number, audit.no, audit.kind, audit.number);
+    CHECK(same_arena(&ours, &expected) && same_record(&ours, &expected)
+              && same_arena(&ours, &p->theirs)
+              && same_record(&ours, &p->theirs),
+          "seed %llu, arena of %zu: an image of version 1 is read in otherwise",
+          (unsigned long long)p->seed, length);
+    CHECK(f.kind != SECOND_SOUND || is_sound(&ours),
+          "seed %llu, arena of %zu: sound by version 1, and not when read in",
+          (unsigned long long)p->seed, length);
+    CHECK(guard_kept(&arena) && guard_kept(&record) && guard_kept(&file),
+          "seed %llu, arena of %zu: read_image wrote outside the buffers",
+          (unsigned long long)p->seed, length);
+    copy_lent(&p->ours, &ours);
+    guard_free(&file);
+    guard_free(&arena);
+    guard_free(&record);
+    give_back(&expected);
+    return f;
+}
+
+/* Sound but for the keys, which then count for nothing. */
+void old_sound_images(uint32_t rounds)
+{
+    uint64_t keyless = 0;
+
+    group("images of version 1 of sound heaps, and calls on what is read in");
+    for (uint64_t i = 1; i <= rounds && !group_failed(); i++) {
+        struct pair p = random_pair((19 << 20) + i);
+        random_heap(&p.r, p.ours.arena, (uint32_t)p.ours.length,
+                    p.ours.record);
+        if (i % 2 == 0)
+            damage_key(&p.r, p.ours.arena, p.ours.record);
+        keyless += !is_sound(&p.ours);
+        same_start(&p);
+        CHECK(old_trip(&p).kind == SECOND_SOUND,
+              "seed %llu: a key is asked of an image of version 1",
+              (unsigned long long)p.seed);
+        round_trip(&p); /* and written in version 2 */
+        calls_on_any(&p, 1 + random_below(&p.r, 6));
+        pair_free(&p);
+    }
+    remark(", %llu with a wrong key", (unsigned long long)keyless);
+}
+
+void old_harmed_images(uint32_t rounds)
+{
+    static harm *const harms[] = { harm_field, harm_lists, harm_bytes,
+                                   harm_all };
+    uint64_t kinds[7] = { 0 };
+
+    group("images of version 1 of harmed heaps are copied, and nothing more");
+    for (uint64_t i = 1; i <= rounds && !group_failed(); i++) {
+        struct pair p = random_pair((20 << 20) + i);
+        harms[i % 4](&p);
+        same_start(&p);
+        kinds[old_trip(&p).kind]++;
+        calls_on_any(&p, 1);
+        pair_free(&p);
+    }
+    remark("; %llu sound, faults", (unsigned long long)kinds[0]);
+    for (unsigned k = 1; k < 7; k++)
+        remark(" %llu", (unsigned long long)kinds[k]);
+}
+
+/* ---- bytes ---- */
+
 /* Every byte of a small one, as document 02 has them. */
 void image_bytes(void)
 {
-    static const uint8_t header[HEADER] = { 'H', 'P', 'I', 1, 0,
+    static const uint8_t header[HEADER] = { 'H', 'P', 'I', 2, 0,
                                             0x10, 0x02, 0, 0 };
     struct pair p = opened(700, 528);
 
@@ -218,9 +345,11 @@ void image_bytes(void)
     for (unsigned i = 0; i < RECORD; i++)
         CHECK(file.bytes[9 + i] == p.theirs.record[i],
               "byte %u is not byte %u of the record", 9 + i, i);
+    CHECK(plain_get(file.bytes + 1581, 8) == plain_key(p.theirs.record),
+          "the key does not stand before the arena");
     for (unsigned i = 0; i < 528; i++)
-        CHECK(file.bytes[1581 + i] == p.theirs.arena[i],
-              "byte %u is not byte %u of the arena", 1581 + i, i);
+        CHECK(file.bytes[1589 + i] == p.theirs.arena[i],
+              "byte %u is not byte %u of the arena", 1589 + i, i);
     read_both(&p, &file, 40);
     guard_free(&file);
     pair_free(&p);
@@ -238,8 +367,9 @@ static struct {
 
 static uint8_t image[ROOM]; /* of a newly opened arena of image_length */
 static uint32_t image_length;
+static size_t image_arena; /* where the arena stands in it */
 
-static void make_image(uint32_t length)
+static void make_image(unsigned version, uint32_t length)
 {
     struct lent l = lend(length, 0x77);
 
@@ -248,11 +378,15 @@ static void make_image(uint32_t length)
         room.arena = guard(ROOM, 0);
         room.record = guard(ROOM, 0);
     }
-    call_theirs(&l, OPEN, 0, 0);
+    call_theirs(&l, OPEN, 0x1234567890abcdef, 0);
     memset(image, 0x66, sizeof image);
     image_length = length;
-    second_write_image(l.arena, length, l.record, RECORD, image,
-                       ARENA_AT + length);
+    image_arena = arena_at(version);
+    memcpy(image, "HPI", 3);
+    plain_put(image + 3, 2, version);
+    plain_put(image + 5, 4, length);
+    memcpy(image + HEADER, l.record, image_arena - HEADER);
+    memcpy(image + image_arena, l.arena, length);
     give_back(&l);
 }
 
@@ -285,11 +419,12 @@ static uint32_t reading_no(struct lengths n)
 {
     if (n.file < 5 || memcmp(image, "HPI", 3) != 0)
         return 6;
-    if (plain_get(image + 3, 2) != 1)
+    uint64_t version = plain_get(image + 3, 2);
+    if (version != 1 && version != 2)
         return 7;
     uint64_t length = plain_get(image + 5, 4);
     bool agree = n.file >= HEADER && allowed(length)
-        && n.file == ARENA_AT + length && n.arena == length
+        && n.file == arena_at(version) + length && n.arena == length
         && n.record == RECORD;
     return agree ? 0 : 1;
 }
@@ -354,29 +489,33 @@ static void put_field(uint32_t length)
     plain_put(image + 5, 4, length);
 }
 
-void image_headers(void)
+static void damaged_headers(unsigned version, uint32_t length)
 {
-    group("images with every header byte damaged in every way");
-    for (uint32_t length = 32; length <= 48; length += 16) {
-        make_image(length);
-        try_read(ARENA_AT + length, length, RECORD);
-        for (unsigned i = 0; i < HEADER; i++) {
-            uint8_t right = image[i];
-            for (unsigned flip = 1; flip < 256 && !group_failed(); flip++) {
-                image[i] = right ^ (uint8_t)flip;
-                try_read(ARENA_AT + length, length, RECORD);
-            }
-            image[i] = right;
+    make_image(version, length);
+    try_read(image_arena + length, length, RECORD);
+    for (unsigned i = 0; i < HEADER; i++) {
+        uint8_t right = image[i];
+        for (unsigned flip = 1; flip < 256 && !group_failed(); flip++) {
+            image[i] = right ^ (uint8_t)flip;
+            try_read(image_arena + length, length, RECORD);
         }
+        image[i] = right;
     }
 }
 
-/* Also with a wrong version, a wrong mark, and both. */
-void image_short_files(void)
+void image_headers(void)
 {
-    group("all files that are shorter than their image, or longer");
-    make_image(32);
-    for (size_t length = 0; length <= ARENA_AT + 32 + 40; length++)
+    group("images with every header byte damaged in every way");
+    for (unsigned version = 1; version <= 2; version++)
+        for (uint32_t length = 32; length <= 48; length += 16)
+            damaged_headers(version, length);
+}
+
+/* Also with a wrong version, a wrong mark, and both. */
+static void short_files(unsigned version)
+{
+    make_image(version, 32);
+    for (size_t length = 0; length <= image_arena + 32 + 40; length++)
         for (unsigned wrong = 0; wrong < 4 && !group_failed(); wrong++) {
             image[0] = wrong & 1 ? 'h' : 'H';
             image[4] = wrong & 2 ? 1 : 0;
@@ -384,31 +523,43 @@ void image_short_files(void)
         }
 }
 
+void image_short_files(void)
+{
+    group("all files that are shorter than their image, or longer");
+    short_files(1);
+    short_files(2);
+}
+
 /* Of the file, of its field, of arena and record: one or several of them. */
+static void wrong_lengths(unsigned version)
+{
+    static const int off[] = { 0, -16, -8, -1, 1, 8, 16 };
+
+    make_image(version, 256);
+    for (unsigned i = 0; i < 7 * 7 * 7 * 7 && !group_failed(); i++) {
+        put_field(256 + (uint32_t)off[i % 7]);
+        try_read(image_arena + 256 + (size_t)off[i / 7 % 7],
+                 256 + (size_t)off[i / 49 % 7],
+                 RECORD + (size_t)off[i / 343]);
+    }
+    put_field(256);
+    try_read(image_arena + 256, 0, RECORD);
+    try_read(image_arena + 256, 256, 0);
+    try_read(image_arena + 256, 0, 0);
+    for (size_t record_len = 1568; record_len <= 1592; record_len += 4)
+        try_read(image_arena + 256, 256, record_len);
+}
+
 void image_lengths(void)
 {
-    static const int off[] = { 0, -16, -1, 1, 16 };
-
-    group("lengths of file, field, arena and record, off by 1 and by 16");
-    make_image(256);
-    for (unsigned i = 0; i < 5 * 5 * 5 * 5 * 2 && !group_failed(); i++) {
-        image[3] = i < 5 * 5 * 5 * 5 ? 1 : 2;
-        put_field(256 + (uint32_t)off[i % 5]);
-        try_read(ARENA_AT + 256 + (size_t)off[i / 5 % 5],
-                 256 + (size_t)off[i / 25 % 5],
-                 RECORD + (size_t)off[i / 125 % 5]);
-    }
-    image[3] = 1;
-    put_field(256);
-    try_read(ARENA_AT + 256, 0, RECORD);
-    try_read(ARENA_AT + 256, 256, 0);
-    try_read(ARENA_AT + 256, 0, 0);
-    for (size_t record_len = 1568; record_len <= 1592; record_len += 4)
-        try_read(ARENA_AT + 256, 256, record_len);
+    group("lengths of file, field, arena and record, off by 1, 8 and 16");
+    wrong_lengths(1);
+    wrong_lengths(2);
+    wrong_lengths(3); /* which is not known, and comes before any length */
 }
 
 /* The field says something else than file and arena, which agree. */
-void image_fields(void)
+static void wrong_fields(unsigned version)
 {
     static const uint32_t field[] = {
         0, 1, 15, 16, 17, 31, 33, 40, 48, 64, 80, 256, 4096, 65536, 65568,
@@ -416,14 +567,16 @@ void image_fields(void)
         0x00100020, 0x01000020, 0x20000000, 0x7fffffff, 0x80000000, 0x80000020,
         0xfffffff0, 0xffffffff,
         0u - 1581,      /* the whole file wraps to 0 in 32 bits, */
+        0u - 1589,
         0u - 1581 + 32, /* to 32, */
-        0u - 1568       /* to 13 */
+        0u - 1589 + 32,
+        0u - 1568       /* to 13 or 21 */
     };
-    static const size_t file_len[] = { 9, 10, 13, 32, 1580, 1581, 1597, 1613,
-                                       1614, 1629, 1645, 2000 };
+    static const size_t file_len[] = { 9, 10, 13, 32, 1580, 1581, 1588, 1589,
+                                       1597, 1605, 1613, 1614, 1621, 1622,
+                                       1629, 1637, 1645, 1653, 2000 };
 
-    group("length fields that are not the file's, up to 4,294,967,295");
-    make_image(32);
+    make_image(version, 32);
     for (unsigned i = 0; i < sizeof field / sizeof field[0]; i++) {
         put_field(field[i]);
         for (unsigned k = 0; k < sizeof file_len / sizeof file_len[0]; k++) {
@@ -431,8 +584,29 @@ void image_fields(void)
             if (group_failed())
                 return;
             try_read(n, 32, RECORD);
-            try_read(n, n < ARENA_AT ? 0 : n - ARENA_AT, RECORD);
+            try_read(n, n < image_arena ? 0 : n - image_arena, RECORD);
             try_read(n, field[i] < 2000 ? field[i] : 0, RECORD);
+        }
+    }
+}
+
+void image_fields(void)
+{
+    group("length fields that are not the file's, up to 4,294,967,295");
+    wrong_fields(1);
+    wrong_fields(2);
+}
+
+/* None but 1 and 2, in files as long as an image of either. */
+void image_versions(void)
+{
+    group("versions that are not known are refused with 7");
+    for (unsigned version = 1; version <= 2; version++) {
+        make_image(version, 64);
+        for (uint32_t other = 0; other < 65536 && !group_failed();
+             other += other < 600 ? 1 : 251) {
+            plain_put(image + 3, 2, other);
+            try_read(image_arena + 64, 64, RECORD);
         }
     }
 }
@@ -440,7 +614,7 @@ void image_fields(void)
 static void try_write_in(struct lengths n, size_t slack)
 {
     uint32_t no = allowed(n.arena) && n.record == RECORD
-            && n.file == ARENA_AT + n.arena ? 0 : 1;
+            && n.file == arena_at(2) + n.arena ? 0 : 1;
     uint8_t *theirs = memory(n.file);
 
     make_room(n, slack);
@@ -483,24 +657,24 @@ void image_writes(void)
 {
     static const size_t length[] = { 0,  1,  15, 16, 17, 31,  32,  33,  40,
                                      47, 48, 49, 64, 80, 256, 264, 512, 1000 };
-    static const size_t record_len[] = { 0,    1,    1556, 1568, 1571,
-                                         1572, 1573, 1576, 1580, 1588 };
-    static const int off[] = { 0, -1581, -1572, -16, -9, -8, -4, -1,
+    static const size_t record_len[] = { 0,    1,    1564, 1572, 1576, 1579,
+                                         1580, 1581, 1584, 1588, 1596 };
+    static const int off[] = { 0, -1589, -1580, -16, -9, -8, -4, -1,
                                1, 4,     8,     9,   16, 32 };
 
     group("images written to and from buffers of any length");
-    make_image(32);
+    make_image(2, 32);
     for (unsigned i = 0; i < sizeof length / sizeof length[0]; i++)
         for (unsigned k = 0; k < sizeof record_len / sizeof record_len[0]; k++)
             for (unsigned j = 0; j < sizeof off / sizeof off[0]; j++) {
                 if (group_failed())
                     return;
                 try_write(length[i], record_len[k],
-                          ARENA_AT + length[i] + (size_t)off[j]);
+                          image_arena + length[i] + (size_t)off[j]);
                 try_write(length[i], record_len[k],
                           HEADER + record_len[k] + length[i]);
             }
-    for (size_t n = 0; n < ARENA_AT + 32 + 40 && !group_failed(); n++)
+    for (size_t n = 0; n < image_arena + 32 + 40 && !group_failed(); n++)
         try_write(32, RECORD, n);
 }
 
@@ -512,7 +686,7 @@ void image_writes(void)
  */
 static void far_buffers(uint8_t *far, size_t past)
 {
-    size_t whole = ARENA_AT + image_length;
+    size_t whole = image_arena + image_length;
     struct lent near = lend(image_length, 1);
     struct lent arena = { far, near.record, past + image_length, RECORD };
     struct lent record = { near.arena, far, image_length, past + RECORD };
@@ -551,7 +725,10 @@ void images_past_32_bits(void)
         remark(", left out: the system lends no such stretch");
         return;
     }
-    make_image(64);
+    make_image(2, 64);
+    far_buffers(far, past);
+    mprotect(far, ROOM, PROT_NONE);
+    make_image(1, 64);
     far_buffers(far, past);
     munmap(far, most);
 }

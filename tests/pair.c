@@ -5,6 +5,7 @@
 #include <string.h>
 
 #include "heap.h"
+#include "plain.h"
 
 const char *const call_name[] = { "open",     "grant",       "release",
                                   "resize",   "emptying",    "joining",
@@ -30,7 +31,7 @@ struct second_answer call_ours(struct lent *l, enum call call,
     struct heap_answer a = { 0, 0, 0 };
     switch (call) {
     case OPEN:
-        a = heap_open(l->arena, l->length, l->record, l->record_len);
+        a = heap_open(l->arena, l->length, l->record, l->record_len, number);
         break;
     case GRANT:
         a = heap_grant(l->arena, l->length, l->record, l->record_len, number);
@@ -59,7 +60,7 @@ struct second_answer call_theirs(struct lent *l, enum call call,
                                  uint64_t number, uint64_t n)
 {
     switch (call) {
-    case OPEN: return lent_open(l);
+    case OPEN: return lent_open(l, number);
     case GRANT: return lent_grant(l, number);
     case RELEASE: return lent_release(l, number);
     case RESIZE: return lent_resize(l, number, n);
@@ -239,14 +240,22 @@ void same_start(struct pair *p)
     copy_lent(&p->theirs, &p->ours);
 }
 
-void open_pair(struct pair *p)
+void open_with(struct pair *p, uint64_t key)
 {
     random_bytes(&p->r, p->ours.arena, p->ours.length);
     random_bytes(&p->r, p->ours.record, p->ours.record_len);
     same_start(p);
-    struct second_answer a = both(p, OPEN, 0);
+    struct second_answer a = both(p, OPEN, key);
     CHECK(a.no == 0 && is_sound(&p->ours), "seed %llu: open refused",
           (unsigned long long)p->seed);
+    CHECK(plain_key(p->ours.record) == key,
+          "seed %llu: the record has another key than the one given",
+          (unsigned long long)p->seed);
+}
+
+void open_pair(struct pair *p)
+{
+    open_with(p, random_key(&p->r));
 }
 
 struct pair opened(uint64_t seed, size_t length)
@@ -254,4 +263,9 @@ struct pair opened(uint64_t seed, size_t length)
     struct pair p = pair_new(seed, (struct random){ seed }, length);
     open_pair(&p);
     return p;
+}
+
+uint64_t second_word(const struct lent *l, uint32_t c)
+{
+    return plain_get(l->arena + c + 24, 8);
 }

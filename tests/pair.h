@@ -44,8 +44,9 @@ extern struct tally {
 void *memory(size_t length);
 
 /*
- * One call up to JOINING on one of the two. The number is a grant's n, else a
- * mem; a resize has its n beside it, which the others pass by.
+ * One call up to JOINING on one of the two. The number is a grant's n, an
+ * open's key, else a mem; a resize has its n beside it, which the others pass
+ * by.
  */
 struct second_answer call_ours(struct lent *l, enum call call,
                                uint64_t number, uint64_t n);
@@ -72,7 +73,11 @@ void refused_resize(struct pair *p, uint64_t mem, uint64_t n, uint32_t no);
 struct pair pair_new(uint64_t seed, struct random r, size_t length);
 void pair_free(struct pair *p);
 void same_start(struct pair *p); /* copies the archive's heap to the other */
-void open_pair(struct pair *p);  /* over random bytes */
+void open_with(struct pair *p, uint64_t key); /* over random bytes */
+void open_pair(struct pair *p);               /* so, with a random key */
 struct pair opened(uint64_t seed, size_t length);
+
+/* The second word of the chunk at c: its key, if it is cached. */
+uint64_t second_word(const struct lent *l, uint32_t c);
 
 #endif

@@ -12,11 +12,11 @@
 
 /* ---- shapes ---- */
 
-/* A refused open leaves this in a record of 1,572 bytes. */
+/* A refused open leaves this in a record of 1,580 bytes, whatever the key. */
 static bool is_closed(const uint8_t *record)
 {
-    for (unsigned word = 0; word < 393; word++) {
-        bool zero = word == 0 || (word >= 67 && word < 131);
+    for (unsigned word = 0; word < 395; word++) {
+        bool zero = word == 0 || (word >= 67 && word < 131) || word >= 393;
         if (plain_word(record, word) != (zero ? 0 : PLAIN_NONE32))
             return false;
     }
@@ -50,7 +50,7 @@ void refused_shape(struct random *r, enum call call, size_t length,
     uint64_t number = extreme(random_below(r, EXTREMES));
     uint64_t n = extreme(random_below(r, EXTREMES));
     struct second_answer a = { 1, 0, 0 };
-    bool closes = call == OPEN && record_len == 1572;
+    bool closes = call == OPEN && record_len == 1580;
 
     tempt(r, &ours);
     memcpy(before.arena, ours.arena, length);
@@ -93,19 +93,19 @@ void bad_shapes(void)
                                      262128 + 8,  262143, 262145, 262152,
                                      262160, 262176, 524288 };
     static const size_t good[] = { 32, 48, 4096, 262144 };
-    static const size_t record_len[] = { 0, 1, 4, 1568, 1571, 1573, 1576,
-                                         1580, 1584, 3144 };
+    static const size_t record_len[] = { 0, 1, 4, 1568, 1572, 1576, 1579,
+                                         1581, 1584, 1588, 3160 };
     struct random r = { 11 };
 
     group("bad shapes: refused with 1, nothing written but a closed record");
     for (unsigned call = OPEN; call <= AUDIT; call++) {
         for (unsigned i = 0; i < sizeof length / sizeof length[0]; i++) {
-            refused_shape(&r, call, length[i], 1572);
-            for (unsigned j = 0; j < 10; j++)
+            refused_shape(&r, call, length[i], 1580);
+            for (unsigned j = 0; j < 11; j++)
                 refused_shape(&r, call, length[i], record_len[j]);
         }
         for (unsigned i = 0; i < 4; i++)
-            for (unsigned j = 0; j < 10; j++)
+            for (unsigned j = 0; j < 11; j++)
                 refused_shape(&r, call, good[i], record_len[j]);
     }
 }
@@ -127,10 +127,10 @@ void lengths_past_32_bits(void)
     for (unsigned call = GRANT; call <= AUDIT; call++)
         for (unsigned i = 0; i < 3; i++) {
             struct lent l = i == 0 ? near
-                : (struct lent){ far, near.record, past + 64, 1572 };
+                : (struct lent){ far, near.record, past + 64, 1580 };
             if (i != 1) {
                 l.record = far;
-                l.record_len = past + 1572;
+                l.record_len = past + 1580;
             }
             uint32_t no = call == AUDIT ? audit_ours(&l).no
                                         : call_ours(&l, call, 16, 24).no;
@@ -138,8 +138,8 @@ void lengths_past_32_bits(void)
             CHECK(no == 1, "%s of lengths %zu and %zu answered %u, not 1",
                   call_name[call], l.length, l.record_len, no);
         }
-    struct lent l = { far, near.record, past + 64, 1572 };
-    CHECK(call_ours(&l, OPEN, 0, 0).no == 1 && is_closed(near.record),
+    struct lent l = { far, near.record, past + 64, 1580 };
+    CHECK(call_ours(&l, OPEN, UINT64_MAX, 0).no == 1 && is_closed(near.record),
           "open of a length past 32 bits is not refused with 1");
     munmap(far, most);
     give_back(&near);
@@ -151,7 +151,7 @@ void closed_heaps(void)
     for (size_t length = 32; length <= 262144; length *= 2) {
         struct pair p = opened(length, length);
         p.ours.length = p.theirs.length = 16;
-        both(&p, OPEN, 0);
+        both(&p, OPEN, UINT64_MAX);
         p.ours.length = p.theirs.length = length;
         CHECK(is_closed(p.ours.record), "a refused open leaves no closed "
               "record, arena of %zu", length);

@@ -24,20 +24,27 @@ static struct {
 
 static struct plain_view view;
 
-static uint8_t file[9 + HEAP_RECORD_BYTES + HEAP_ARENA_MAX];
+static uint8_t file[HEAP_IMAGE_BYTES(HEAP_ARENA_MAX)];
 
 static void the_call(void)
 {
-    size_t file_len = 9 + HEAP_RECORD_BYTES + now.heap->length;
+    size_t file_len = HEAP_IMAGE_BYTES(now.heap->length);
 
     if (now.call == AUDIT)
         audit_ours(now.heap);
     else if (now.call == WRITE_IMAGE)
         write_ours(now.heap, file, file_len);
     else if (now.call == READ_IMAGE)
-        read_ours(file, file_len, now.heap);
+        read_ours(file, file[3] == 1 ? file_len - 8 : file_len, now.heap);
     else
         call_ours(now.heap, now.call, now.number, now.n);
+}
+
+/* The image that was written becomes one of version 1: no key in its record. */
+static void make_old(size_t length)
+{
+    file[3] = 1;
+    memmove(file + 1581, file + 1589, length);
 }
 
 /* x86-64: the stack pointer is kept in a register that the callee keeps. */
@@ -149,6 +156,8 @@ void stack_taken(uint32_t rounds)
             damage_field(&p.r, p.ours.arena, (uint32_t)p.ours.length,
                          p.ours.record);
         take_any(&p.r, &p.ours, WRITE_IMAGE, i);
+        take_any(&p.r, &p.ours, READ_IMAGE, i);
+        make_old(p.ours.length);
         take_any(&p.r, &p.ours, READ_IMAGE, i);
         for (unsigned call = AUDIT + 1; call-- > OPEN;)
             take_any(&p.r, &p.ours, call, i);

@@ -1,5 +1,5 @@
--- The audit is exact: it answers sound if and only if words and record are those of a sound heap, and that heap is the one that is read. Between the two
--- stands what the audit's tests say (Spelled); the relation says the same by list, chunk and word. Assumes nothing.
+-- The audit is exact, by the rules of each version: it answers sound if and only if words and record are those of a sound heap, and that heap is the one that is
+-- read. Between the two stands what the audit's tests say (Spelled); the relation says the same by list, chunk and word. Assumes nothing.
 use mathlib.Core.Path.{_≡_, refl, sym, ap, _∙_, subst}
 use mathlib.Core.List.{List, [], _∷_}
 use mathlib.Core.Logic.{inl, inr, ⊎-elim}
@@ -10,18 +10,18 @@ use lib.ListN.{length, getD, drop, length-append, length-drop, List·getD-append
 use lib.Seq.{getD-drop, getD-append-add}
 use borrow.Author.Tests.{lt-ltb, le-ltb}
 use Rattle.le.specs.Arena.{arenaWords}
-use Rattle.sizes.specs.Limits.{none64, none32}
+use Rattle.sizes.specs.Limits.{none64, none32, newest}
 use Rattle.sizes.specs.Sizes.{binOf}
-use Rattle.sizes.specs.Layout.{cacheHead, fastHead, binFirst, binLast}
+use Rattle.sizes.specs.Layout.{cacheHead, fastHead, binFirst, binLast, keyLow, keyHigh}
 use Rattle.machine.specs.Lists.{hd, lst, cnt}
 use Rattle.machine.specs.Count.{cnt-le-all}
 use Rattle.machine.specs.Heap.{tile, Heap, stack, cache, fast, bin, starts, topOf, topSize, sizeOf, total, binned, recordOf}
-use Rattle.machine.specs.View.{sizeAt, lowAt, up, kindAt, view}
-use Rattle.machine.specs.Audit.{lists, auditOf}
+use Rattle.machine.specs.View.{sizeAt, lowAt, up, kindAt, keyIn, view}
+use Rattle.machine.specs.Audit.{lists, auditBy, auditOf}
 use Rattle.machine.specs.declared.ListKind.{ListKind}
 use Rattle.machine.specs.declared.ListKind.the-variants.{Cache, Fast, Bin}
 use Rattle.machine.specs.declared.Audited.the-variants as A
-use Rattle.sound.specs.Relation.{Mem, Homes, Good, Sound, chain, links, falls, stackSize}
+use Rattle.sound.specs.Relation.{MemBy, Homes, Good, SoundBy, Sound, chain, links, falls, stackSize}
 use Rattle.sound.specs.Tiles.{lt-or-le, tiled-split, tiled-join, Start, start, tiles-split, tiles-join}
 use Rattle.sound.specs.Lists.{links-chain}
 use Rattle.sound.specs.Homes.{falls-cong}
@@ -84,47 +84,49 @@ module _ (h : Heap) (own : (x : ℕ) → total x h ≤ cnt x (starts h)) where
   bin-start j x m = omega (arith, own x, cnt-le-all x (h .bins) j)
 
 -- ---- from the tests to the relation
-module _ (h : Heap) (w r : List ℕ) (a : 8 * length w ≤ 262144) (s : Spelled h w r) where
+module _ (v : ℕ) (h : Heap) (w r : List ℕ) (a : 8 * length w ≤ 262144) (s : Spelled v h w r) where
   size-of : (x : ℕ) → 1 ≤ cnt x (starts h) → sizeAt w x ≡ sizeOf h x
   size-of x m = size-at w 0 (h .tiles) x (s .tiles .sizes) (s .tiles .words) m
 
   small : (x : ℕ) → 1 ≤ cnt x (starts h) → x < 262144
-  small = chunk-small h w r a s
+  small = chunk-small v h w r a s
 
   all200 : length (lists h) ≡ 200
   all200 = omega (arith, length-append (h .stacks) (drop 1 (h .bins)), length-drop 1 (h .bins), s .stacked, s .bins)
 
-  suit : (i : ℕ) (k : ListKind) (l : List ℕ) → i < 200 → kindAt i ≡ k → getD (lists h) i [] ≡ l → Suited k w r l
+  suit : (i : ℕ) (k : ListKind) (l : List ℕ) → i < 200 → kindAt i ≡ k → getD (lists h) i [] ≡ l → Suited v k w r l
   suit i k l b e g =
       let z : 0 + i ≡ i = omega arith in
-      subst (λ (m : List ℕ). Suited k w r m) g (subst (λ (j : ListKind). Suited j w r (getD (lists h) i [])) e
-      (subst (λ (j : ℕ). Suit w r j (getD (lists h) i [])) z (suit-get w r 0 i (lists h) (omega (arith, all200)) (s .listed))))
+      subst (λ (m : List ℕ). Suited v k w r m) g (subst (λ (j : ListKind). Suited v j w r (getD (lists h) i [])) e
+      (subst (λ (j : ℕ). Suit v w r j (getD (lists h) i [])) z (suit-get v w r 0 i (lists h) (omega (arith, all200)) (s .listed))))
 
-  cache-suit : (k : ℕ) → k < 64 → Suited (Cache k) w r (cache h k)
+  cache-suit : (k : ℕ) → k < 64 → Suited v (Cache k) w r (cache h k)
   cache-suit k b = suit k (Cache k) (cache h k) (omega arith) (kind-cache k b) (stack-at h (s .stacked) k (omega arith))
 
-  fast-suit : (k : ℕ) → k < 10 → Suited (Fast k) w r (fast h k)
+  fast-suit : (k : ℕ) → k < 10 → Suited v (Fast k) w r (fast h k)
   fast-suit k b = suit (64 + k) (Fast k) (fast h k) (omega arith) (kind-fast k b) (stack-at h (s .stacked) (64 + k) (omega arith))
 
-  bin-suit : (j : ℕ) → 1 ≤ j → j ≤ 126 → Suited (Bin j) w r (bin h j)
+  bin-suit : (j : ℕ) → 1 ≤ j → j ≤ 126 → Suited v (Bin j) w r (bin h j)
   bin-suit j b c = suit (73 + j) (Bin j) (bin h j) (omega arith) (kind-bin j b) (bin-at h (s .stacked) j b)
 
-  cached : (k : ℕ) → k < 64 → CacheListed k w r 0 (cache h k)
-  cached k b = cache-out k w r none64 0 (cache h k) (omega arith) (cache-suit k b .2)
+  cached : (k : ℕ) → k < 64 → CacheListed v k w r 0 (cache h k)
+  cached k b = cache-out v k w r none64 0 (cache h k) (omega arith) (cache-suit k b .2)
 
   quick : (k : ℕ) → k < 10 → FastListed k w (fast h k)
-  quick k b = fast-out k w r none64 0 (fast h k) (fast-suit k b .2)
+  quick k b = fast-out v k w r none64 0 (fast h k) (fast-suit k b .2)
 
   sorted : (j : ℕ) → 1 ≤ j → j ≤ 126 → BinListed j w r none64 (bin h j)
-  sorted j b c = bin-out j w r none64 0 (bin h j) (λ x m e. omega (arith, small x (bin-start h (s .own) j x m), e)) (bin-suit j b c .1) (bin-suit j b c .2)
+  sorted j b c = bin-out v j w r none64 0 (bin h j) (λ x m e. omega (arith, small x (bin-start h (s .own) j x m), e)) (bin-suit j b c .1) (bin-suit j b c .2)
 
-  spelled-mem : Mem h w
-  spelled-mem = record {
+  spelled-mem : ((i : ℕ) → getD r i 0 < 2 ^ 32) → MemBy v h w
+  spelled-mem b = record {
     long = s .long;
     words = tiles-join w 0 (h .tiles) (tile (topSize h) 1 0 ∷ []) (s .tiles .words)
         (omega (arith, s .topP, s .tiles .top, s .long), λ e. absurd (omega (arith, e)), tt);
     chains = stack-cases h (s .stacked) (λ k l. chain w l) (λ k b. cache-suit k b .1) (λ k b. fast-suit k b .1) (λ k. tt);
     blinks = bin-cases h (s .bins) (s .none) (λ j l. links w none64 l none64) (λ j. tt) (λ j b c. sorted j b c .link);
+    keys = λ z k x c m. cached k c .keys z x m ∙ s .key;
+    key64 = omega (arith, s .key, b keyLow, b keyHigh);
   }
 
   spelled-homes : Homes h
@@ -162,7 +164,7 @@ module _ (h : Heap) (w r : List ℕ) (a : 8 * length w ≤ 262144) (s : Spelled 
       top-size : topSize h ≡ sizeAt w (topOf h)
       top-size = omega (arith, s .tiles .top, s .long)
 
-  spelled-record : length r ≡ 393 → ((i : ℕ) → getD r i 0 < 2 ^ 32) → r ≡ recordOf h
+  spelled-record : length r ≡ 395 → ((i : ℕ) → getD r i 0 < 2 ^ 32) → r ≡ recordOf h
   spelled-record n b = record-ext h r (s .stacked) (s .bins) (record {
     all = n;
     len = s .len ∙ s .long;
@@ -173,6 +175,8 @@ module _ (h : Heap) (w r : List ℕ) (a : 8 * length w ≤ 262144) (s : Spelled 
     fasts = λ k c. head (fastHead k) (fast h k) (λ x m. stack-start h (s .own) (64 + k) x m) (fast-suit k c .0);
     firsts = λ j c d. head (binFirst j) (bin h j) (λ x m. bin-start h (s .own) j x m) (bin-suit j c d .0);
     lasts = λ j c d. last (binLast j) (bin h j) (λ x m. bin-start h (s .own) j x m) (sorted j c d .last);
+    low = omega (arith, s .key, b keyLow, b keyHigh);
+    high = omega (arith, s .key, b keyLow, b keyHigh);
   })
     where
       head : (i : ℕ) (l : List ℕ) → ((x : ℕ) → 1 ≤ cnt x l → 1 ≤ cnt x (starts h)) → up (getD r i 0) ≡ hd none64 l → getD r i 0 ≡ hd none32 l
@@ -181,16 +185,16 @@ module _ (h : Heap) (w r : List ℕ) (a : 8 * length w ≤ 262144) (s : Spelled 
       last : (i : ℕ) (l : List ℕ) → ((x : ℕ) → 1 ≤ cnt x l → 1 ≤ cnt x (starts h)) → up (getD r i 0) ≡ lst none64 l → getD r i 0 ≡ lst none32 l
       last i l m e = let u = up-lst l (λ x k. small x (m x k)) in up-one (getD r i 0) (lst none32 l) (b i) (u .1) (e ∙ sym (u .0))
 
-pub audit-good : (w r : List ℕ) → Arena w → auditOf w r ≡ A.Sound → Good (view w r)
-audit-good w r a e = spelled-good (view w r) w r (a .small) (audit-spelled w r e)
+pub audit-good-by : (v : ℕ) (w r : List ℕ) → Arena w → auditBy v w r ≡ A.Sound → Good (view w r)
+audit-good-by v w r a e = spelled-good v (view w r) w r (a .small) (audit-spelled v w r e)
 
-pub audit-sound : (w r : List ℕ) → Arena w → length r ≡ 393 → ((i : ℕ) → getD r i 0 < 2 ^ 32) → auditOf w r ≡ A.Sound → Sound (view w r) w r
-audit-sound w r a n b e =
-    let s = audit-spelled w r e in
-    record { good = audit-good w r a e; mem = spelled-mem (view w r) w r (a .small) s; rec = spelled-record (view w r) w r (a .small) s n b }
+pub audit-sound-by : (v : ℕ) (w r : List ℕ) → Arena w → length r ≡ 395 → ((i : ℕ) → getD r i 0 < 2 ^ 32) → auditBy v w r ≡ A.Sound → SoundBy v (view w r) w r
+audit-sound-by v w r a n b e =
+    let s = audit-spelled v w r e in
+    record { good = audit-good-by v w r a e; mem = spelled-mem v (view w r) w r (a .small) s b; rec = spelled-record v (view w r) w r (a .small) s n b }
 
 -- ---- from the relation to the tests
-module _ (h : Heap) (w r : List ℕ) (s : Sound h w r) where
+module _ (v : ℕ) (h : Heap) (w r : List ℕ) (s : SoundBy v h w r) where
   recorded : Recorded h r
   recorded = subst (Recorded h) (sym (s .rec)) (record-words h (s .good .shape .stacked74) (s .good .shape .binned127))
 
@@ -225,31 +229,35 @@ module _ (h : Heap) (w r : List ℕ) (s : Sound h w r) where
   bins-in : (j x : ℕ) → 1 ≤ cnt x (bin h j) → 1 ≤ cnt x (starts h)
   bins-in = bin-start h (s .good .shape .own)
 
-  cache-suits : (k : ℕ) → k < 64 → Suited (Cache k) w r (cache h k)
+  keyed : keyIn r ≡ h .key
+  keyed = omega (arith, recorded .low, recorded .high)
+
+  cache-suits : (k : ℕ) → k < 64 → Suited v (Cache k) w r (cache h k)
   cache-suits k b = (
     ap up (recorded .heads k b) ∙ up-hd (cache h k) (λ x m. within x (stacks-in k x m)) .0,
     s .mem .chains k,
-    cache-in k w r none64 0 (cache h k) (record {
+    cache-in v k w r none64 0 (cache h k) (record {
       own = λ x m. size-was x (stacks-in k x m) ∙ s .good .homes .stacked k x m ∙ stack-cache k b;
       counted = recorded .counts k b ∙ omega arith;
       most = omega (arith, s .good .homes .short k b);
+      keys = λ z x m. s .mem .keys z k x b m ∙ sym keyed;
     }),
   )
 
-  fast-suits : (k : ℕ) → k < 10 → Suited (Fast k) w r (fast h k)
+  fast-suits : (k : ℕ) → k < 10 → Suited v (Fast k) w r (fast h k)
   fast-suits k b = (
     ap up (recorded .fasts k b) ∙ up-hd (fast h k) (λ x m. within x (stacks-in (64 + k) x m)) .0,
     s .mem .chains (64 + k),
-    fast-in k w r none64 0 (fast h k) (record {
+    fast-in v k w r none64 0 (fast h k) (record {
       own = λ x m. size-was x (stacks-in (64 + k) x m) ∙ s .good .homes .stacked (64 + k) x m ∙ stack-fast k;
       most = λ x m. omega (arith, size-was x (stacks-in (64 + k) x m), s .good .homes .quick (64 + k) x (omega arith) m);
     }),
   )
 
-  bin-suits : (j : ℕ) → 1 ≤ j → j ≤ 126 → Suited (Bin j) w r (bin h j)
+  bin-suits : (j : ℕ) → 1 ≤ j → j ≤ 126 → Suited v (Bin j) w r (bin h j)
   bin-suits j b c =
       let l = links-chain w none64 (bin h j) (s .mem .blinks j) in
-      let g = bin-in j w r none64 0 (bin h j) (record {
+      let g = bin-in v j w r none64 0 (bin h j) (record {
         link = s .mem .blinks j;
         own = λ x m. ⊎-elim (λ z. inl (omega arith)) (λ z. inr (ap binOf (size-was x (bins-in j x m)) ∙ s .good .homes .sorted j x z m)) (lt-or-le j 2);
         falling = λ g. falls-cong (λ x. sizeOf h x) (λ x. sizeAt w x) (bin h j) (λ x m. size-was x (bins-in j x m)) (s .good .homes .falling j g);
@@ -258,39 +266,40 @@ module _ (h : Heap) (w r : List ℕ) (s : Sound h w r) where
       }) in
       (ap up (recorded .firsts j b c) ∙ up-hd (bin h j) (λ x m. within x (bins-in j x m)) .0, l, g .1)
 
-  suits-at : (i : ℕ) → i < 200 → Suit w r i (getD (lists h) i [])
+  suits-at : (i : ℕ) → i < 200 → Suit v w r i (getD (lists h) i [])
   suits-at i b =
       ⊎-elim (λ l. put i (Cache i) (cache h i) (kind-cache i l) (stack-at h n i (omega arith)) (cache-suits i l))
       (λ l. ⊎-elim
       (λ m.
       let e : 64 + (i - 64) ≡ i = omega arith in
-      subst (λ (z : ℕ). Suit w r z (getD (lists h) z [])) e
+      subst (λ (z : ℕ). Suit v w r z (getD (lists h) z [])) e
       (put (64 + (i - 64)) (Fast (i - 64)) (fast h (i - 64)) (kind-fast (i - 64) (omega arith)) (stack-at h n (64 + (i - 64)) (omega arith)) (fast-suits (i - 64) (omega arith))))
       (λ m.
       let e : 73 + (i - 73) ≡ i = omega arith in
-      subst (λ (z : ℕ). Suit w r z (getD (lists h) z [])) e
+      subst (λ (z : ℕ). Suit v w r z (getD (lists h) z [])) e
       (put (73 + (i - 73)) (Bin (i - 73)) (bin h (i - 73)) (kind-bin (i - 73) (omega arith)) (bin-at h n (i - 73) (omega arith)) (bin-suits (i - 73) (omega arith) (omega arith))))
       (lt-or-le i 74)) (lt-or-le i 64)
     where
       n : length (h .stacks) ≡ 74
       n = s .good .shape .stacked74
 
-      put : (i : ℕ) (k : ListKind) (l : List ℕ) → kindAt i ≡ k → getD (lists h) i [] ≡ l → Suited k w r l → Suit w r i (getD (lists h) i [])
-      put i k l e g z = subst (λ (j : ListKind). Suited j w r (getD (lists h) i [])) (sym e) (subst (λ (m : List ℕ). Suited k w r m) (sym g) z)
+      put : (i : ℕ) (k : ListKind) (l : List ℕ) → kindAt i ≡ k → getD (lists h) i [] ≡ l → Suited v k w r l → Suit v w r i (getD (lists h) i [])
+      put i k l e g z = subst (λ (j : ListKind). Suited v j w r (getD (lists h) i [])) (sym e) (subst (λ (m : List ℕ). Suited v k w r m) (sym g) z)
 
-  pub sound-spelled : Spelled h w r
+  pub sound-spelled : Spelled v h w r
   sound-spelled = record {
     len = recorded .len ∙ sym (s .mem .long);
     long = s .mem .long;
     top = recorded .top;
     rest = recorded .remainder;
+    key = keyed;
     tiles = tiled .0;
     stacked = s .good .shape .stacked74;
     bins = s .good .shape .binned127;
     none = s .good .homes .none;
-    listed = suit-all w r 0 (lists h) (λ i b.
+    listed = suit-all v w r 0 (lists h) (λ i b.
         let z : 0 + i ≡ i = omega arith in
-        subst (λ (j : ℕ). Suit w r j (getD (lists h) i [])) (sym z) (suits-at i (omega (arith, all))));
+        subst (λ (j : ℕ). Suit v w r j (getD (lists h) i [])) (sym z) (suits-at i (omega (arith, all))));
     own = s .good .shape .own;
     flagged = s .good .flag;
     topP = tiled .1;
@@ -303,8 +312,21 @@ module _ (h : Heap) (w r : List ℕ) (s : Sound h w r) where
   arena-small = omega (arith, s .mem .long, s .good .shape .small)
 
 -- every sound heap is read, and found sound
+pub audit-read-by : (v : ℕ) (h : Heap) (w r : List ℕ) → SoundBy v h w r → view w r ≡ h
+audit-read-by v h w r s = spelled-read v h w r (arena-small v h w r s) (sound-spelled v h w r s)
+
+pub audit-complete-by : (v : ℕ) (h : Heap) (w r : List ℕ) → SoundBy v h w r → auditBy v w r ≡ A.Sound
+audit-complete-by v h w r s = spelled-audit v h w r (arena-small v h w r s) (sound-spelled v h w r s)
+
+-- ---- by the newest rules
+pub audit-good : (w r : List ℕ) → Arena w → auditOf w r ≡ A.Sound → Good (view w r)
+audit-good = audit-good-by newest
+
+pub audit-sound : (w r : List ℕ) → Arena w → length r ≡ 395 → ((i : ℕ) → getD r i 0 < 2 ^ 32) → auditOf w r ≡ A.Sound → Sound (view w r) w r
+audit-sound = audit-sound-by newest
+
 pub audit-read : (h : Heap) (w r : List ℕ) → Sound h w r → view w r ≡ h
-audit-read h w r s = spelled-read h w r (arena-small h w r s) (sound-spelled h w r s)
+audit-read = audit-read-by newest
 
 pub audit-complete : (h : Heap) (w r : List ℕ) → Sound h w r → auditOf w r ≡ A.Sound
-audit-complete h w r s = spelled-audit h w r (arena-small h w r s) (sound-spelled h w r s)
+audit-complete = audit-complete-by newest

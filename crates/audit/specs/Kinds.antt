@@ -11,11 +11,11 @@ use lib.ListN.{length, getD}
 use borrow.Author.Tests.{ltb-true, leb-true, eqb-true, eqb-false, lt-ltb, le-ltb, le-leb, eq-eqb, ne-eqb}
 use Rattle.sizes.specs.Limits.{none64, none32}
 use Rattle.sizes.specs.Sizes.{binOf}
-use Rattle.sizes.specs.Layout.{cacheCount, binLast, backWord}
+use Rattle.sizes.specs.Layout.{cacheCount, binLast, backWord, keyWord}
 use Rattle.machine.specs.Lists.{either, hd, lst, cnt}
 use Rattle.machine.specs.Count.{eq?, ind-other, cnt-here, cnt-there}
-use Rattle.machine.specs.View.{sizeAt, up, kindAt}
-use Rattle.machine.specs.Audit.{mayStand}
+use Rattle.machine.specs.View.{sizeAt, up, kindAt, keyIn}
+use Rattle.machine.specs.Audit.{keyOk, mayStand}
 use Rattle.machine.specs.declared.ListKind.the-variants.{Cache, Fast, Bin}
 use Rattle.sound.specs.Relation.{chain, links, falls}
 use Rattle.sound.specs.Tiles.{lt-or-le}
@@ -40,28 +40,51 @@ cnt-cases x c l h = ⊎-elim (λ e. inl e) (λ n. inr (omega (arith, ind-other x
 every : (P : ℕ → Type 0) (c : ℕ) (l : List ℕ) → P c → ((x : ℕ) → 1 ≤ cnt x l → P x) → (x : ℕ) → 1 ≤ cnt x (c ∷ l) → P x
 every P c l h t x m = ⊎-elim (λ e. rw e h) (λ n. t x n) (cnt-cases x c l m)
 
--- ---- a cache list: sizes, the count, at most 7
-pub record CacheListed (k : ℕ) (w r : List ℕ) (n : ℕ) (l : List ℕ) : Type 0 where
+-- ---- a cache list: sizes, the count, at most 7, the key
+pub record CacheListed (v k : ℕ) (w r : List ℕ) (n : ℕ) (l : List ℕ) : Type 0 where
   pub own : (x : ℕ) → 1 ≤ cnt x l → sizeAt w x ≡ 32 + 16 * k
   pub counted : getD r (cacheCount k) 0 ≡ n + length l
   pub most : n + length l ≤ 7
+  pub keys : 2 ≤ v → (x : ℕ) → 1 ≤ cnt x l → getD w (keyWord x) 0 ≡ keyIn r
 
-pub cache-out : (k : ℕ) (w r : List ℕ) (p n : ℕ) (l : List ℕ) → n ≤ 7 → suits (Cache k) w r p n l → CacheListed k w r n l
-cache-out k w r p n [] h s = record { own = λ x m. absurd (not-suc-le-zero m); counted = eqb-true (getD r (cacheCount k) 0) n s ∙ omega arith; most = omega arith }
-cache-out k w r p n (c ∷ l) h s =
-    let q = both-true (eqb (sizeAt w c) (32 + 16 * k)) (ltb n 7) (s .0) in
-    let t = cache-out k w r c (suc n) l (ltb-true n 7 (q .1)) (s .1) in
+-- the key of one chunk: asked for from version 2 on
+key-out : (v : ℕ) (w r : List ℕ) (c : ℕ) → keyOk v w r c ≡ true → 2 ≤ v → getD w (keyWord c) 0 ≡ keyIn r
+key-out v w r c e h =
+    ⊎-elim (λ z. absurd (omega (arith, ltb-true v 2 z))) (λ z. eqb-true (getD w (keyWord c) 0) (keyIn r) z) (either-true (ltb v 2) _ e)
+
+key-in : (v : ℕ) (w r : List ℕ) (c : ℕ) → (2 ≤ v → getD w (keyWord c) 0 ≡ keyIn r) → keyOk v w r c ≡ true
+key-in v w r c h =
+    ⊎-elim (λ z. either-left (ltb v 2) _ (lt-ltb v 2 z)) (λ z. either-right (ltb v 2) _ (eq-eqb (getD w (keyWord c) 0) (keyIn r) (h z))) (lt-or-le v 2)
+
+pub cache-out : (v k : ℕ) (w r : List ℕ) (p n : ℕ) (l : List ℕ) → n ≤ 7 → suits v (Cache k) w r p n l → CacheListed v k w r n l
+cache-out v k w r p n [] h s = record {
+  own = λ x m. absurd (not-suc-le-zero m);
+  counted = eqb-true (getD r (cacheCount k) 0) n s ∙ omega arith;
+  most = omega arith;
+  keys = λ _ x m. absurd (not-suc-le-zero m);
+}
+cache-out v k w r p n (c ∷ l) h s =
+    let q = both-true (eqb (sizeAt w c) (32 + 16 * k)) _ (s .0) in
+    let u = both-true (ltb n 7) (keyOk v w r c) (q .1) in
+    let t = cache-out v k w r c (suc n) l (ltb-true n 7 (u .0)) (s .1) in
     record {
       own = every (λ x. sizeAt w x ≡ 32 + 16 * k) c l (eqb-true (sizeAt w c) (32 + 16 * k) (q .0)) (t .own);
       counted = omega (arith, t .counted);
       most = omega (arith, t .most);
+      keys = λ z. every (λ x. getD w (keyWord x) 0 ≡ keyIn r) c l (key-out v w r c (u .1) z) (t .keys z);
     }
 
-pub cache-in : (k : ℕ) (w r : List ℕ) (p n : ℕ) (l : List ℕ) → CacheListed k w r n l → suits (Cache k) w r p n l
-cache-in k w r p n [] s = eq-eqb (getD r (cacheCount k) 0) n (s .counted ∙ omega arith)
-cache-in k w r p n (c ∷ l) s = (
-  rw (eq-eqb (sizeAt w c) (32 + 16 * k) (s .own c (cnt-here c l)), mayStand) (lt-ltb n 7 (omega (arith, s .most))),
-  cache-in k w r c (suc n) l (record { own = λ x m. s .own x (cnt-there x c l m); counted = omega (arith, s .counted); most = omega (arith, s .most) }),
+pub cache-in : (v k : ℕ) (w r : List ℕ) (p n : ℕ) (l : List ℕ) → CacheListed v k w r n l → suits v (Cache k) w r p n l
+cache-in v k w r p n [] s = eq-eqb (getD r (cacheCount k) 0) n (s .counted ∙ omega arith)
+cache-in v k w r p n (c ∷ l) s = (
+  rw (eq-eqb (sizeAt w c) (32 + 16 * k) (s .own c (cnt-here c l)), mayStand)
+      (rw (lt-ltb n 7 (omega (arith, s .most))) (key-in v w r c (λ z. s .keys z c (cnt-here c l)))),
+  cache-in v k w r c (suc n) l (record {
+    own = λ x m. s .own x (cnt-there x c l m);
+    counted = omega (arith, s .counted);
+    most = omega (arith, s .most);
+    keys = λ z x m. s .keys z x (cnt-there x c l m);
+  }),
 )
 
 -- ---- a fast list: sizes, none above 128
@@ -69,21 +92,21 @@ pub record FastListed (k : ℕ) (w l : List ℕ) : Type 0 where
   pub own : (x : ℕ) → 1 ≤ cnt x l → sizeAt w x ≡ 32 + 16 * k
   pub most : (x : ℕ) → 1 ≤ cnt x l → sizeAt w x ≤ 128
 
-pub fast-out : (k : ℕ) (w r : List ℕ) (p n : ℕ) (l : List ℕ) → suits (Fast k) w r p n l → FastListed k w l
-fast-out k w r p n [] s = record { own = λ x m. absurd (not-suc-le-zero m); most = λ x m. absurd (not-suc-le-zero m) }
-fast-out k w r p n (c ∷ l) s =
+pub fast-out : (v k : ℕ) (w r : List ℕ) (p n : ℕ) (l : List ℕ) → suits v (Fast k) w r p n l → FastListed k w l
+fast-out v k w r p n [] s = record { own = λ x m. absurd (not-suc-le-zero m); most = λ x m. absurd (not-suc-le-zero m) }
+fast-out v k w r p n (c ∷ l) s =
     let q = both-true (eqb (sizeAt w c) (32 + 16 * k)) (leb (sizeAt w c) 128) (s .0) in
-    let t = fast-out k w r c (suc n) l (s .1) in
+    let t = fast-out v k w r c (suc n) l (s .1) in
     record {
       own = every (λ x. sizeAt w x ≡ 32 + 16 * k) c l (eqb-true (sizeAt w c) (32 + 16 * k) (q .0)) (t .own);
       most = every (λ x. sizeAt w x ≤ 128) c l (leb-true (sizeAt w c) 128 (q .1)) (t .most);
     }
 
-pub fast-in : (k : ℕ) (w r : List ℕ) (p n : ℕ) (l : List ℕ) → FastListed k w l → suits (Fast k) w r p n l
-fast-in k w r p n [] s = refl
-fast-in k w r p n (c ∷ l) s = (
+pub fast-in : (v k : ℕ) (w r : List ℕ) (p n : ℕ) (l : List ℕ) → FastListed k w l → suits v (Fast k) w r p n l
+fast-in v k w r p n [] s = refl
+fast-in v k w r p n (c ∷ l) s = (
   rw (eq-eqb (sizeAt w c) (32 + 16 * k) (s .own c (cnt-here c l)), mayStand) (le-leb (sizeAt w c) 128 (s .most c (cnt-here c l))),
-  fast-in k w r c (suc n) l (record { own = λ x m. s .own x (cnt-there x c l m); most = λ x m. s .most x (cnt-there x c l m) }),
+  fast-in v k w r c (suc n) l (record { own = λ x m. s .own x (cnt-there x c l m); most = λ x m. s .most x (cnt-there x c l m) }),
 )
 
 -- ---- a chunk in a bin, after p
@@ -92,8 +115,8 @@ record BinStands (j : ℕ) (w : List ℕ) (p c : ℕ) : Type 0 where
   back : getD w (backWord c) 0 ≡ p
   order : 64 ≤ j → (p ≡ none64 → ⊥) → sizeAt w c ≤ sizeAt w p
 
-bin-stands : (j : ℕ) (w : List ℕ) (p n c : ℕ) → mayStand (Bin j) w p n c ≡ true → BinStands j w p c
-bin-stands j w p n c e =
+bin-stands : (v j : ℕ) (w r : List ℕ) (p n c : ℕ) → mayStand v (Bin j) w r p n c ≡ true → BinStands j w p c
+bin-stands v j w r p n c e =
     let x = both-true (either (eqb j 1) (eqb (binOf (sizeAt w c)) j)) _ e in
     let y = both-true (eqb (getD w (backWord c) 0) p) _ (x .1) in
     record {
@@ -104,8 +127,8 @@ bin-stands j w p n c e =
           (either-true (ltb j 64) _ (y .1));
     }
 
-stands-bin : (j : ℕ) (w : List ℕ) (p n c : ℕ) → BinStands j w p c → mayStand (Bin j) w p n c ≡ true
-stands-bin j w p n c k =
+stands-bin : (v j : ℕ) (w r : List ℕ) (p n c : ℕ) → BinStands j w p c → mayStand v (Bin j) w r p n c ≡ true
+stands-bin v j w r p n c k =
     let o : either (eqb j 1) (eqb (binOf (sizeAt w c)) j) ≡ true =
     ⊎-elim (λ z. either-left (eqb j 1) _ (eq-eqb j 1 z)) (λ z. either-right (eqb j 1) _ (eq-eqb (binOf (sizeAt w c)) j z)) (k .own) in
     let f : either (ltb j 64) (either (eqb p none64) (leb (sizeAt w c) (sizeAt w p))) ≡ true =
@@ -124,17 +147,17 @@ pub record BinListed (j : ℕ) (w r : List ℕ) (p : ℕ) (l : List ℕ) : Type 
   pub below : 64 ≤ j → (p ≡ none64 → ⊥) → (x : ℕ) → 1 ≤ cnt x l → sizeAt w x ≤ sizeAt w p
   pub last : up (getD r (binLast j) 0) ≡ lst p l
 
-pub bin-out : (j : ℕ) (w r : List ℕ) (p n : ℕ) (l : List ℕ) → ((x : ℕ) → 1 ≤ cnt x l → x ≡ none64 → ⊥) → chain w l → suits (Bin j) w r p n l → BinListed j w r p l
-bin-out j w r p n [] h c s = record {
+pub bin-out : (v j : ℕ) (w r : List ℕ) (p n : ℕ) (l : List ℕ) → ((x : ℕ) → 1 ≤ cnt x l → x ≡ none64 → ⊥) → chain w l → suits v (Bin j) w r p n l → BinListed j w r p l
+bin-out v j w r p n [] h c s = record {
   link = tt;
   own = λ x m. absurd (not-suc-le-zero m);
   falling = λ _. tt;
   below = λ _ _ x m. absurd (not-suc-le-zero m);
   last = eqb-true (up (getD r (binLast j) 0)) p s;
 }
-bin-out j w r p n (c ∷ l) h ch s =
-    let k = bin-stands j w p n c (s .0) in
-    let t = bin-out j w r c (suc n) l (λ x m. h x (cnt-there x c l m)) (ch .1) (s .1) in
+bin-out v j w r p n (c ∷ l) h ch s =
+    let k = bin-stands v j w r p n c (s .0) in
+    let t = bin-out v j w r c (suc n) l (λ x m. h x (cnt-there x c l m)) (ch .1) (s .1) in
     let under : 64 ≤ j → (x : ℕ) → 1 ≤ cnt x l → sizeAt w x ≤ sizeAt w c = λ g. t .below g (h c (cnt-here c l)) in
     record {
       link = (ch .0, k .back, t .link);
@@ -144,17 +167,17 @@ bin-out j w r p n (c ∷ l) h ch s =
       last = t .last;
     }
 
-pub bin-in : (j : ℕ) (w r : List ℕ) (p n : ℕ) (l : List ℕ) → BinListed j w r p l → chain w l × suits (Bin j) w r p n l
-bin-in j w r p n [] k = (tt, eq-eqb (up (getD r (binLast j) 0)) p (k .last))
-bin-in j w r p n (c ∷ l) k =
-    let t = bin-in j w r c (suc n) l (record {
+pub bin-in : (v j : ℕ) (w r : List ℕ) (p n : ℕ) (l : List ℕ) → BinListed j w r p l → chain w l × suits v (Bin j) w r p n l
+bin-in v j w r p n [] k = (tt, eq-eqb (up (getD r (binLast j) 0)) p (k .last))
+bin-in v j w r p n (c ∷ l) k =
+    let t = bin-in v j w r c (suc n) l (record {
       link = k .link .2;
       own = λ x m. k .own x (cnt-there x c l m);
       falling = λ g. k .falling g .1;
       below = λ g _. k .falling g .0;
       last = k .last;
     }) in
-    ((k .link .0, t .0), (stands-bin j w p n c (record { own = k .own c (cnt-here c l); back = k .link .1; order = λ g q. k .below g q c (cnt-here c l) }), t .1))
+    ((k .link .0, t .0), (stands-bin v j w r p n c (record { own = k .own c (cnt-here c l); back = k .link .1; order = λ g q. k .below g q c (cnt-here c l) }), t .1))
 
 -- ---- a word of the record, and the link of the arena that stands for it
 up-small : (x : ℕ) → x < 262144 → up x ≡ x

@@ -10,7 +10,7 @@ use lib.Dec.{ltb}
 use lib.ListN.{length, getD, set, drop}
 use borrow.Author.Tests.{eq-eqb, ne-eqb, ltb-true, ltb-false}
 use Rattle.sizes.specs.Limits.{none64}
-use Rattle.sizes.specs.Layout.{fwdWord}
+use Rattle.sizes.specs.Layout.{fwdWord, keyLow}
 use Rattle.machine.specs.Lists.{both, cnt, cntAll, has?, without, minus, tabulate}
 use Rattle.machine.specs.Count.{without-length}
 use Rattle.machine.specs.View.{sizeAt, up, kindAt, headWord, chunksFrom, listAt}
@@ -73,42 +73,42 @@ bin-later x i l ls = go (ltb i 64) (ltb i 74) refl refl
         ap (λ (n : ℕ). cntAll x (drop n (l ∷ ls))) e ∙ ap (λ (n : ℕ). cnt x l + cntAll x (drop n ls)) (sym g)
 
 -- ---- the loops. resume: the body of listFault's clause at a later chunk, after p and n chunks, with the chunks l to come
-abbrev resume : List ℕ → List ℕ → ListKind → ℕ → List ℕ → ℕ → ℕ → List ℕ → List (List ℕ) → Audited
-resume w r k i left p n l ls = elim (goodFrom k w r left p n l) [ true ↦ listFault w r (suc i) (minus left l) ls | false ↦ A.List k ]
+abbrev resume : ℕ → List ℕ → List ℕ → ListKind → ℕ → List ℕ → ℕ → ℕ → List ℕ → List (List ℕ) → Audited
+resume v w r k i left p n l ls = elim (goodFrom v k w r left p n l) [ true ↦ listFault v w r (suc i) (minus left l) ls | false ↦ A.List k ]
 
-abbrev whole : List ℕ → List ℕ → Audited
-whole w r = listFault w r 0 (startsOf w) (listsOf w r)
+abbrev whole : ℕ → List ℕ → List ℕ → Audited
+whole v w r = listFault v w r 0 (startsOf w) (listsOf w r)
 
 -- before list i
-pub record Out (w r m : List ℕ) (i : ℕ) : Type 0 where
+pub record Out (v : ℕ) (w r m : List ℕ) (i : ℕ) : Type 0 where
   pub left : List ℕ
   pub b : ℕ → ℕ
   pub marks : Marks w m left b
   pub few : length left < length w
-  pub same : listFault w r i left (drop i (listsOf w r)) ≡ whole w r
+  pub same : listFault v w r i left (drop i (listsOf w r)) ≡ whole v w r
   pub rest : minusAll left (drop i (listsOf w r)) ≡ minusAll (startsOf w) (listsOf w r)
   pub bins : (x : ℕ) → b x + cntAll x (drop (74 - i) (drop i (listsOf w r))) ≡ binnedOf w r x
 
 -- in list i, of the kind k, before the chunk c, after n chunks, of which p, of size q, is the last
-pub record In (w r m : List ℕ) (k : ListKind) (i p q n c : ℕ) : Type 0 where
+pub record In (v : ℕ) (w r m : List ℕ) (k : ListKind) (i p q n c : ℕ) : Type 0 where
   pub left : List ℕ
   pub b : ℕ → ℕ
   pub f : ℕ
   pub marks : Marks w m left b
   pub fuel : length left < f
   pub few : n + length left < length w
-  pub same : resume w r k i left p n (chunksFrom f w c) (drop (suc i) (listsOf w r)) ≡ whole w r
+  pub same : resume v w r k i left p n (chunksFrom f w c) (drop (suc i) (listsOf w r)) ≡ whole v w r
   pub rest : minusAll (minus left (chunksFrom f w c)) (drop (suc i) (listsOf w r)) ≡ minusAll (startsOf w) (listsOf w r)
   pub bins : (x : ℕ) → b x + binCnt k x (chunksFrom f w c) + cntAll x (drop (74 - suc i) (drop (suc i) (listsOf w r))) ≡ binnedOf w r x
   pub sized : (p ≡ none64 → ⊥) → q ≡ sizeAt w p
 
-pub lists-enter : (w r m : List ℕ) → Started w m → Out w r m 0
-lists-enter w r m s = record
+pub lists-enter : (v : ℕ) (w r m : List ℕ) → Started w m → Out v w r m 0
+lists-enter v w r m s = record
     { left = startsOf w; b = λ x. 0; marks = s .marks; few = s .few; same = refl; rest = refl; bins = λ x. omega arith }
 
-list-enter : (w r m : List ℕ) (i q : ℕ) → i < 200 → Out w r m i → In w r m (kindAt i) i none64 q 0 (up (getD r (headWord (kindAt i)) 0))
+list-enter : (v : ℕ) (w r m : List ℕ) (i q : ℕ) → i < 200 → Out v w r m i → In v w r m (kindAt i) i none64 q 0 (up (getD r (headWord (kindAt i)) 0))
 unfolding listFault listAt
-list-enter w r m i q h o =
+list-enter v w r m i q h o =
     let e : drop i (listsOf w r) ≡ listAt w r i ∷ drop (suc i) (listsOf w r) = list-next w r i h in
     record {
       left = o .left;
@@ -117,14 +117,14 @@ list-enter w r m i q h o =
       marks = o .marks;
       fuel = o .few;
       few = omega (arith, o .few);
-      same = sym (ap (listFault w r i (o .left)) e) ∙ o .same;
+      same = sym (ap (listFault v w r i (o .left)) e) ∙ o .same;
       rest = sym (ap (minusAll (o .left)) e) ∙ o .rest;
       bins = λ x. omega (arith, o .bins x, ap (λ (ls : List (List ℕ)). cntAll x (drop (74 - i) ls)) e, bin-later x i (listAt w r i) (drop (suc i) (listsOf w r)));
       sized = λ n. absurd (n refl);
     }
 
-pub list-begin : (w r m : List ℕ) (i q : ℕ) (k : ListKind) (c : ℕ) → k ≡ kindAt i → c ≡ up (getD r (headWord k) 0) → i < 200 → Out w r m i → In w r m k i none64 q 0 c
-list-begin w r m i q k c e g h o = rw (g, e) (list-enter w r m i q h o)
+pub list-begin : (v : ℕ) (w r m : List ℕ) (i q : ℕ) (k : ListKind) (c : ℕ) → k ≡ kindAt i → c ≡ up (getD r (headWord k) 0) → i < 200 → Out v w r m i → In v w r m k i none64 q 0 c
+list-begin v w r m i q k c e g h o = rw (g, e) (list-enter v w r m i q h o)
 
 -- ---- one turn
 pub chunks-more : (f : ℕ) (w : List ℕ) (c : ℕ) → (c ≡ none64 → ⊥) → chunksFrom (suc f) w c ≡ c ∷ chunksFrom f w (getD w (fwdWord c) 0)
@@ -134,67 +134,67 @@ pub chunks-end : (f : ℕ) (w : List ℕ) (c : ℕ) → c ≡ none64 → chunksF
 chunks-end zero w c e = refl
 chunks-end (suc f) w c e = rw (eq-eqb c none64 e, chunksFrom)
 
-resume-bad : (w r : List ℕ) (k : ListKind) (i : ℕ) (left : List ℕ) (p n c : ℕ) (l : List ℕ) (ls : List (List ℕ)) → both (has? c left) (mayStand k w p n c) ≡ false
-    → resume w r k i left p n (c ∷ l) ls ≡ A.List k
+resume-bad : (v : ℕ) (w r : List ℕ) (k : ListKind) (i : ℕ) (left : List ℕ) (p n c : ℕ) (l : List ℕ) (ls : List (List ℕ)) → both (has? c left) (mayStand v k w r p n c) ≡ false
+    → resume v w r k i left p n (c ∷ l) ls ≡ A.List k
 unfolding goodFrom
-resume-bad w r k i left p n c l ls e =
-    let g : goodFrom k w r left p n (c ∷ l) ≡ false = ap (λ (z : Bool). both z (goodFrom k w r (without c left) c (suc n) l)) e in
+resume-bad v w r k i left p n c l ls e =
+    let g : goodFrom v k w r left p n (c ∷ l) ≡ false = ap (λ (z : Bool). both z (goodFrom v k w r (without c left) c (suc n) l)) e in
     rw (g, resume)
 
-resume-more : (w r : List ℕ) (k : ListKind) (i : ℕ) (left : List ℕ) (p n c : ℕ) (l : List ℕ) (ls : List (List ℕ)) → both (has? c left) (mayStand k w p n c) ≡ true
-    → resume w r k i left p n (c ∷ l) ls ≡ resume w r k i (without c left) c (suc n) l ls
+resume-more : (v : ℕ) (w r : List ℕ) (k : ListKind) (i : ℕ) (left : List ℕ) (p n c : ℕ) (l : List ℕ) (ls : List (List ℕ)) → both (has? c left) (mayStand v k w r p n c) ≡ true
+    → resume v w r k i left p n (c ∷ l) ls ≡ resume v w r k i (without c left) c (suc n) l ls
 unfolding goodFrom
-resume-more w r k i left p n c l ls e =
-    let g : goodFrom k w r left p n (c ∷ l) ≡ goodFrom k w r (without c left) c (suc n) l = ap (λ (z : Bool). both z (goodFrom k w r (without c left) c (suc n) l)) e in
-    ap (λ (z : Bool). elim z [ true ↦ listFault w r (suc i) (minus left (c ∷ l)) ls | false ↦ A.List k ]) g
+resume-more v w r k i left p n c l ls e =
+    let g : goodFrom v k w r left p n (c ∷ l) ≡ goodFrom v k w r (without c left) c (suc n) l = ap (λ (z : Bool). both z (goodFrom v k w r (without c left) c (suc n) l)) e in
+    ap (λ (z : Bool). elim z [ true ↦ listFault v w r (suc i) (minus left (c ∷ l)) ls | false ↦ A.List k ]) g
 
-end-false : (w r : List ℕ) (k : ListKind) (i : ℕ) (left : List ℕ) (p n : ℕ) (ls : List (List ℕ)) → mayEnd k r p n ≡ false → resume w r k i left p n [] ls ≡ A.List k
+end-false : (v : ℕ) (w r : List ℕ) (k : ListKind) (i : ℕ) (left : List ℕ) (p n : ℕ) (ls : List (List ℕ)) → mayEnd k r p n ≡ false → resume v w r k i left p n [] ls ≡ A.List k
 unfolding goodFrom
-end-false w r k i left p n ls h = let g : goodFrom k w r left p n [] ≡ false = h in rw (g, resume)
+end-false v w r k i left p n ls h = let g : goodFrom v k w r left p n [] ≡ false = h in rw (g, resume)
 
-end-true : (w r : List ℕ) (k : ListKind) (i : ℕ) (left : List ℕ) (p n : ℕ) (ls : List (List ℕ)) → mayEnd k r p n ≡ true → resume w r k i left p n [] ls ≡ listFault w r (suc i) left ls
+end-true : (v : ℕ) (w r : List ℕ) (k : ListKind) (i : ℕ) (left : List ℕ) (p n : ℕ) (ls : List (List ℕ)) → mayEnd k r p n ≡ true → resume v w r k i left p n [] ls ≡ listFault v w r (suc i) left ls
 unfolding goodFrom
-end-true w r k i left p n ls h = let g : goodFrom k w r left p n [] ≡ true = h in rw (g, resume)
+end-true v w r k i left p n ls h = let g : goodFrom v k w r left p n [] ≡ true = h in rw (g, resume)
 
-module _ (w r m : List ℕ) (k : ListKind) (i p q n c : ℕ) (o : In w r m k i p q n c) where
-  list-bad : (m′ : List ℕ) → (c ≡ none64 → ⊥) → both (has? c (o .left)) (mayStand k w p n c) ≡ false → ListsDone w r (A.List k) m′
+module _ (v : ℕ) (w r m : List ℕ) (k : ListKind) (i p q n c : ℕ) (o : In v w r m k i p q n c) where
+  list-bad : (m′ : List ℕ) → (c ≡ none64 → ⊥) → both (has? c (o .left)) (mayStand v k w r p n c) ≡ false → ListsDone v w r (A.List k) m′
   list-bad m′ ne e = go (o .f) (o .fuel) (o .same)
     where
-      go : (f : ℕ) → length (o .left) < f → resume w r k i (o .left) p n (chunksFrom f w c) (drop (suc i) (listsOf w r)) ≡ whole w r → ListsDone w r (A.List k) m′
+      go : (f : ℕ) → length (o .left) < f → resume v w r k i (o .left) p n (chunksFrom f w c) (drop (suc i) (listsOf w r)) ≡ whole v w r → ListsDone v w r (A.List k) m′
       go zero b s = absurd (not-suc-le-zero b)
       go (suc f) b s = record {
-        is = sym (ap (λ (l : List ℕ). resume w r k i (o .left) p n l (drop (suc i) (listsOf w r))) (chunks-more f w c ne)
-            ∙ resume-bad w r k i (o .left) p n c _ _ e) ∙ s;
+        is = sym (ap (λ (l : List ℕ). resume v w r k i (o .left) p n l (drop (suc i) (listsOf w r))) (chunks-more f w c ne)
+            ∙ resume-bad v w r k i (o .left) p n c _ _ e) ∙ s;
         marks = λ y. not-sound (A.List k) refl y;
       }
 
   -- c is no chunk, or was met; c may not stand there
-  pub list-met : (v : Bool) (m′ : List ℕ) → (c ≡ none64 → ⊥) → v ≡ unmet m c → v ≡ false → ListsDone w r (A.List k) m′
-  list-met v m′ ne e z =
+  pub list-met : (t : Bool) (m′ : List ℕ) → (c ≡ none64 → ⊥) → t ≡ unmet m c → t ≡ false → ListsDone v w r (A.List k) m′
+  list-met t m′ ne e z =
       let h : has? c (o .left) ≡ false = sym (unmet-has w m (o .left) (o .b) (o .marks) c) ∙ sym e ∙ z in
-      list-bad m′ ne (ap (λ (y : Bool). both y (mayStand k w p n c)) h)
+      list-bad m′ ne (ap (λ (y : Bool). both y (mayStand v k w r p n c)) h)
 
-  has-true : (v : Bool) → v ≡ unmet m c → v ≡ true → has? c (o .left) ≡ true
-  has-true v e z = sym (unmet-has w m (o .left) (o .b) (o .marks) c) ∙ sym e ∙ z
+  has-true : (t : Bool) → t ≡ unmet m c → t ≡ true → has? c (o .left) ≡ true
+  has-true t e z = sym (unmet-has w m (o .left) (o .b) (o .marks) c) ∙ sym e ∙ z
 
-  pub list-misplaced : (v u : Bool) (m′ : List ℕ) → (c ≡ none64 → ⊥) → v ≡ unmet m c → v ≡ true → u ≡ mayStand k w p n c → u ≡ false → ListsDone w r (A.List k) m′
-  list-misplaced v u m′ ne e z g y = list-bad m′ ne (ap (λ (x : Bool). both x (mayStand k w p n c)) (has-true v e z) ∙ sym g ∙ y)
+  pub list-misplaced : (t u : Bool) (m′ : List ℕ) → (c ≡ none64 → ⊥) → t ≡ unmet m c → t ≡ true → u ≡ mayStand v k w r p n c → u ≡ false → ListsDone v w r (A.List k) m′
+  list-misplaced t u m′ ne e z g y = list-bad m′ ne (ap (λ (x : Bool). both x (mayStand v k w r p n c)) (has-true t e z) ∙ sym g ∙ y)
 
-  pub list-turn : (v u : Bool) (s : ℕ) → (c ≡ none64 → ⊥) → v ≡ unmet m c → v ≡ true → u ≡ mayStand k w p n c → u ≡ true → s ≡ sizeAt w c
-      → In w r (set m (c / 16) (markOf k)) k i c s (n + 1) (getD w (fwdWord c) 0)
-  list-turn v u s ne e z d y sz = go (o .f) (o .fuel) (o .same) (o .rest) (o .bins)
+  pub list-turn : (t u : Bool) (s : ℕ) → (c ≡ none64 → ⊥) → t ≡ unmet m c → t ≡ true → u ≡ mayStand v k w r p n c → u ≡ true → s ≡ sizeAt w c
+      → In v w r (set m (c / 16) (markOf k)) k i c s (n + 1) (getD w (fwdWord c) 0)
+  list-turn t u s ne e z d y sz = go (o .f) (o .fuel) (o .same) (o .rest) (o .bins)
     where
-      tested : both (has? c (o .left)) (mayStand k w p n c) ≡ true
-      tested = ap (λ (x : Bool). both x (mayStand k w p n c)) (has-true v e z) ∙ sym d ∙ y
+      tested : both (has? c (o .left)) (mayStand v k w r p n c) ≡ true
+      tested = ap (λ (x : Bool). both x (mayStand v k w r p n c)) (has-true t e z) ∙ sym d ∙ y
 
       g : length (o .left) ≡ suc (length (without c (o .left)))
       g = without-length c (o .left) (unmet-inside w m (o .left) (o .b) (o .marks) c (sym e ∙ z) .2)
 
       go : (f : ℕ) → length (o .left) < f
-          → resume w r k i (o .left) p n (chunksFrom f w c) (drop (suc i) (listsOf w r)) ≡ whole w r
+          → resume v w r k i (o .left) p n (chunksFrom f w c) (drop (suc i) (listsOf w r)) ≡ whole v w r
           → minusAll (minus (o .left) (chunksFrom f w c)) (drop (suc i) (listsOf w r)) ≡ minusAll (startsOf w) (listsOf w r)
           → ((x : ℕ) → o .b x + binCnt k x (chunksFrom f w c) + cntAll x (drop (74 - suc i) (drop (suc i) (listsOf w r))) ≡ binnedOf w r x)
-          → In w r (set m (c / 16) (markOf k)) k i c s (n + 1) (getD w (fwdWord c) 0)
+          → In v w r (set m (c / 16) (markOf k)) k i c s (n + 1) (getD w (fwdWord c) 0)
       go zero b a t u = absurd (not-suc-le-zero b)
       go (suc f) b a t u =
           let h : chunksFrom (suc f) w c ≡ c ∷ chunksFrom f w (getD w (fwdWord c) 0) = chunks-more f w c ne in
@@ -206,51 +206,51 @@ module _ (w r m : List ℕ) (k : ListKind) (i p q n c : ℕ) (o : In w r m k i p
             marks = mark-step w m (o .left) (o .b) c k (o .marks) (sym e ∙ z);
             fuel = omega (arith, g);
             few = omega (arith, g, o .few);
-            same = subst (λ (y : ℕ). resume w r k i (without c (o .left)) c y (chunksFrom f w (getD w (fwdWord c) 0)) (drop (suc i) (listsOf w r)) ≡ whole w r) n1
-                (sym (ap (λ (l : List ℕ). resume w r k i (o .left) p n l (drop (suc i) (listsOf w r))) h
-                ∙ resume-more w r k i (o .left) p n c _ _ tested) ∙ a);
+            same = subst (λ (y : ℕ). resume v w r k i (without c (o .left)) c y (chunksFrom f w (getD w (fwdWord c) 0)) (drop (suc i) (listsOf w r)) ≡ whole v w r) n1
+                (sym (ap (λ (l : List ℕ). resume v w r k i (o .left) p n l (drop (suc i) (listsOf w r))) h
+                ∙ resume-more v w r k i (o .left) p n c _ _ tested) ∙ a);
             rest = sym (ap (λ (l : List ℕ). minusAll (minus (o .left) l) (drop (suc i) (listsOf w r))) h) ∙ t;
             bins = λ x. omega (arith, u x, ap (λ (l : List ℕ). binCnt k x l) h, bin-more k x c (chunksFrom f w (getD w (fwdWord c) 0)));
             sized = λ _. sz;
           }
 
   -- where the list ends
-  pub list-end-bad : (v : Bool) (m′ : List ℕ) → c ≡ none64 → v ≡ mayEnd k r p n → v ≡ false → ListsDone w r (A.List k) m′
-  list-end-bad v m′ e g z = record {
-    is = sym (ap (λ (y : List ℕ). resume w r k i (o .left) p n y (drop (suc i) (listsOf w r))) (chunks-end (o .f) w c e)
-        ∙ end-false w r k i (o .left) p n (drop (suc i) (listsOf w r)) (sym g ∙ z)) ∙ o .same;
+  pub list-end-bad : (t : Bool) (m′ : List ℕ) → c ≡ none64 → t ≡ mayEnd k r p n → t ≡ false → ListsDone v w r (A.List k) m′
+  list-end-bad t m′ e g z = record {
+    is = sym (ap (λ (y : List ℕ). resume v w r k i (o .left) p n y (drop (suc i) (listsOf w r))) (chunks-end (o .f) w c e)
+        ∙ end-false v w r k i (o .left) p n (drop (suc i) (listsOf w r)) (sym g ∙ z)) ∙ o .same;
     marks = λ y. not-sound (A.List k) refl y;
   }
 
-  pub list-leave : (v : Bool) → c ≡ none64 → v ≡ mayEnd k r p n → v ≡ true → Out w r m (i + 1)
-  list-leave v e g z =
+  pub list-leave : (t : Bool) → c ≡ none64 → t ≡ mayEnd k r p n → t ≡ true → Out v w r m (i + 1)
+  list-leave t e g z =
       let i1 : suc i ≡ i + 1 = omega arith in
       let d : chunksFrom (o .f) w c ≡ [] = chunks-end (o .f) w c e in
-      subst (λ (y : ℕ). Out w r m y) i1 (record {
+      subst (λ (y : ℕ). Out v w r m y) i1 (record {
         left = o .left;
         b = o .b;
         marks = o .marks;
         few = omega (arith, o .few);
-        same = sym (ap (λ (y : List ℕ). resume w r k i (o .left) p n y (drop (suc i) (listsOf w r))) d
-            ∙ end-true w r k i (o .left) p n (drop (suc i) (listsOf w r)) (sym g ∙ z)) ∙ o .same;
+        same = sym (ap (λ (y : List ℕ). resume v w r k i (o .left) p n y (drop (suc i) (listsOf w r))) d
+            ∙ end-true v w r k i (o .left) p n (drop (suc i) (listsOf w r)) (sym g ∙ z)) ∙ o .same;
         rest = sym (ap (λ (y : List ℕ). minusAll (minus (o .left) y) (drop (suc i) (listsOf w r))) d) ∙ o .rest;
         bins = λ x. omega (arith, o .bins x, ap (λ (y : List ℕ). binCnt k x y) d, bin-none k x);
       })
 
 -- a list that is empty by its words is left as if its chunks had been gone through; so is a run of them
-list-empty : (w r m : List ℕ) (i : ℕ) → i < 200 → Empty r (kindAt i) → Out w r m i → Out w r m (i + 1)
-list-empty w r m i h e o =
-    list-leave w r m (kindAt i) i none64 0 0 (up (getD r (headWord (kindAt i)) 0)) (list-enter w r m i 0 h o) true (e .0) (sym (e .1)) refl
+list-empty : (v : ℕ) (w r m : List ℕ) (i : ℕ) → i < 200 → Empty r (kindAt i) → Out v w r m i → Out v w r m (i + 1)
+list-empty v w r m i h e o =
+    list-leave v w r m (kindAt i) i none64 0 0 (up (getD r (headWord (kindAt i)) 0)) (list-enter v w r m i 0 h o) true (e .0) (sym (e .1)) refl
 
-pub list-skip : (w r m : List ℕ) (i j : ℕ) → Skipped r i j → Out w r m i → Out w r m j
-list-skip w r m i j s o = go (j - i) i (omega (arith, s .low)) s o
+pub list-skip : (v : ℕ) (w r m : List ℕ) (i j : ℕ) → Skipped r i j → Out v w r m i → Out v w r m j
+list-skip v w r m i j s o = go (j - i) i (omega (arith, s .low)) s o
   where
-    go : (n i : ℕ) → i + n ≡ j → Skipped r i j → Out w r m i → Out w r m j
+    go : (n i : ℕ) → i + n ≡ j → Skipped r i j → Out v w r m i → Out v w r m j
     go zero i e s o = let q : i ≡ j = omega (arith, e) in rw q at o
     go (suc n) i e s o =
         go n (i + 1) (omega (arith, e))
         (record { low = omega (arith, e); high = s .high; empty = λ x p q. s .empty x (omega (arith, p)) q })
-        (list-empty w r m i (omega (arith, e, s .high)) (s .empty i (omega arith) (omega (arith, e))) o)
+        (list-empty v w r m i (omega (arith, e, s .high)) (s .empty i (omega arith) (omega (arith, e))) o)
 
 -- ---- all lists are good
 drop-all : (n : ℕ) (ls : List (List ℕ)) → length ls ≡ n → drop n ls ≡ []
@@ -263,25 +263,24 @@ drop-none : (x n : ℕ) → cntAll x (drop n []) ≡ 0
 drop-none x zero = refl
 drop-none x (suc n) = refl
 
-pub lists-done : (w r m : List ℕ) (i : ℕ) → 200 ≤ i → i ≤ 200 → Out w r m i → ListsDone w r A.Sound m
+pub lists-done : (v : ℕ) (w r m : List ℕ) (i : ℕ) → 200 ≤ i → i ≤ 200 → Out v w r m i → ListsDone v w r A.Sound m
 unfolding listFault
-lists-done w r m i h l o =
+lists-done v w r m i h l o =
     let d : drop i (listsOf w r) ≡ [] = drop-all i (listsOf w r) (omega (arith, listsOf-length w r)) in
     record {
-      is = sym (ap (listFault w r i (o .left)) d) ∙ o .same;
+      is = sym (ap (listFault v w r i (o .left)) d) ∙ o .same;
       marks = λ _. marks-same w m _ _ _ _
           (λ x. ap (λ (y : List ℕ). cnt x y) (sym (ap (minusAll (o .left)) d) ∙ o .rest))
           (λ x. omega (arith, o .bins x, ap (λ (y : List (List ℕ)). cntAll x (drop (74 - i) y)) d, drop-none x (74 - i))) (o .marks);
     }
 
--- the record has the words of list i
--- a list's words are within the record, and a bin has a number
-pub kind-words : (k : ListKind) (i : ℕ) → k ≡ kindAt i → i < 200 → (headWord k < 393) × (tailWord k < 393)
-kind-words k i e h = subst (λ (z : ListKind). (headWord z < 393) × (tailWord z < 393)) (sym e) (go (ltb i 64) (ltb i 74) refl refl)
+-- the record has a list's words, before the key's, and a bin has a number
+pub kind-words : (k : ListKind) (i : ℕ) → k ≡ kindAt i → i < 200 → (headWord k < keyLow) × (tailWord k < keyLow)
+kind-words k i e h = subst (λ (z : ListKind). (headWord z < keyLow) × (tailWord z < keyLow)) (sym e) (go (ltb i 64) (ltb i 74) refl refl)
   where
     go : (a b : Bool) → ltb i 64 ≡ a → ltb i 74 ≡ b
-        → (headWord (elim a [ true ↦ Cache i | false ↦ elim b [ true ↦ Fast (i - 64) | false ↦ Bin (i - 73) ] ]) < 393)
-        × (tailWord (elim a [ true ↦ Cache i | false ↦ elim b [ true ↦ Fast (i - 64) | false ↦ Bin (i - 73) ] ]) < 393)
+        → (headWord (elim a [ true ↦ Cache i | false ↦ elim b [ true ↦ Fast (i - 64) | false ↦ Bin (i - 73) ] ]) < keyLow)
+        × (tailWord (elim a [ true ↦ Cache i | false ↦ elim b [ true ↦ Fast (i - 64) | false ↦ Bin (i - 73) ] ]) < keyLow)
     go true b p q = let l = ltb-true i 64 p in (omega arith, omega arith)
     go false true p q = let l = ltb-true i 74 q in (omega arith, omega arith)
     go false false p q = (omega arith, omega arith)

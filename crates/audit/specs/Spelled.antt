@@ -1,5 +1,5 @@
--- What words and record that spell a heap say, as the audit's tests say it; the audit answers sound exactly then, and that heap is the one that is read.
--- The parts of the audit put together. Assumes nothing.
+-- What words and record that spell a heap say, as the audit's tests by version v say it; the audit answers sound exactly then, and that heap is the one that is
+-- read. The parts of the audit put together. Assumes nothing.
 use mathlib.Core.Path.{_≡_, refl, sym, ap, _∙_, subst}
 use mathlib.Core.List.{List, [], _∷_, _++_}
 use Prim.Native.Nat.{ℕ, zero, suc, _+_, _*_, _≤_, _<_}
@@ -13,8 +13,8 @@ use Rattle.sizes.specs.Layout.{lengthWord, topWord, remainderWord}
 use Rattle.machine.specs.Lists.{cnt, cntAll, tabulate}
 use Rattle.machine.specs.Count.{pigeons}
 use Rattle.machine.specs.Heap.{Heap, starts, topOf, topSize, total, binned, bin}
-use Rattle.machine.specs.View.{lowAt, tileAt, tilesFrom, tilesOf, listAt, stacksOf, binsOf, view}
-use Rattle.machine.specs.Audit.{recordFault, tileFault, listFault, lists, faultIn, auditOf}
+use Rattle.machine.specs.View.{lowAt, tileAt, tilesFrom, tilesOf, listAt, stacksOf, binsOf, keyIn, view}
+use Rattle.machine.specs.Audit.{recordFault, tileFault, listFault, lists, faultIn, auditBy}
 use Rattle.machine.specs.declared.Audited.the-variants as A
 use Rattle.sound.specs.Relation.{all, flags}
 use Rattle.sound.specs.Tiles.{Start, start, starts-once}
@@ -23,16 +23,17 @@ use Rattle.audit_walks.specs.Tiles.{TilesOk, tiles-sound, tiles-read, tiles-com
 use Rattle.audit.specs.Lists.{suitAll, minusAll, lists-sound, lists-complete, lists-read}
 use Rattle.audit.specs.Flags.{flags-sound, flags-complete}
 
-pub record Spelled (h : Heap) (w r : List ℕ) : Type 0 where
+pub record Spelled (v : ℕ) (h : Heap) (w r : List ℕ) : Type 0 where
   pub len : getD r lengthWord 0 ≡ 8 * length w
   pub long : 8 * length w ≡ h .len
   pub top : getD r topWord 0 ≡ topOf h
   pub rest : getD r remainderWord 0 ≡ h .remainder
+  pub key : keyIn r ≡ h .key
   pub tiles : TilesOk w 0 (h .tiles)
   pub stacked : length (h .stacks) ≡ 74
   pub bins : length (h .bins) ≡ 127
   pub none : bin h 0 ≡ []
-  pub listed : suitAll w r 0 (lists h)
+  pub listed : suitAll v w r 0 (lists h)
   pub own : (x : ℕ) → total x h ≤ cnt x (starts h)
   pub flagged : flags (λ x. binned h x) 0 0 0 (all h)
   pub topP : lowAt w (topOf h) ≡ 1
@@ -89,22 +90,22 @@ binned-later w r x =
     omega (arith, ap (cntAll x) (sym d ∙ ap (drop 74) (view-lists w r)))
 
 -- ---- the audit answers sound: words and record spell what is read
-pub listsOf-sound : (w r left : List ℕ) → length left < length w → listFault w r 0 left (listsOf w r) ≡ A.Sound
-    → suitAll w r 0 (listsOf w r) × ((x : ℕ) → cnt x (minusAll left (listsOf w r)) + cntAll x (listsOf w r) ≡ cnt x left)
+pub listsOf-sound : (v : ℕ) (w r left : List ℕ) → length left < length w → listFault v w r 0 left (listsOf w r) ≡ A.Sound
+    → suitAll v w r 0 (listsOf w r) × ((x : ℕ) → cnt x (minusAll left (listsOf w r)) + cntAll x (listsOf w r) ≡ cnt x left)
 unfolding listsOf
-listsOf-sound w r left b e = lists-sound 200 0 w r left b e
+listsOf-sound v w r left b e = lists-sound v 200 0 w r left b e
 
-pub audit-spelled : (w r : List ℕ) → auditOf w r ≡ A.Sound → Spelled (view w r) w r
-unfolding auditOf tilesOf
-audit-spelled w r e =
+pub audit-spelled : (v : ℕ) (w r : List ℕ) → auditBy v w r ≡ A.Sound → Spelled v (view w r) w r
+unfolding auditBy tilesOf
+audit-spelled v w r e =
     let h : Heap = view w r in
     let e₁ = first-sound (recordFault w r) _ e in
     let e₂ = first-sound (tileFault w (getD r topWord 0) 0 (h .tiles)) _ (e₁ .1) in
-    let e₃ = first-sound (listFault w r 0 (starts h) (lists h)) _ (e₂ .1) in
+    let e₃ = first-sound (listFault v w r 0 (starts h) (lists h)) _ (e₂ .1) in
     let t = tiles-sound (length w) w (getD r topWord 0) 0 (e₂ .0) in
-    let v = view-lists w r in
-    let l = listsOf-sound w r (starts h) (few w (h .tiles) (t .0)) (sym (ap (listFault w r 0 (starts h)) v) ∙ e₃ .0) in
-    let own : (x : ℕ) → total x h ≤ cnt x (starts h) = λ x. omega (arith, l .1 x, total-lists x h refl, ap (cntAll x) v) in
+    let ev = view-lists w r in
+    let l = listsOf-sound v w r (starts h) (few w (h .tiles) (t .0)) (sym (ap (listFault v w r 0 (starts h)) ev) ∙ e₃ .0) in
+    let own : (x : ℕ) → total x h ≤ cnt x (starts h) = λ x. omega (arith, l .1 x, total-lists x h refl, ap (cntAll x) ev) in
     let f = flags-sound (binned h) (tileAt w (topOf h)) (topSize h) 0 0 0 (h .tiles)
     (λ x. omega (arith, own x, starts-once (h .tiles) 0 x (t .0 .sizes)))
     (omega (arith, own (topOf h), end-no-start (h .tiles) 0 (t .0 .sizes))) (omega arith) (t .0 .notes) (e₃ .1) in
@@ -113,19 +114,20 @@ audit-spelled w r e =
       long = refl;
       top = t .1;
       rest = refl;
+      key = refl;
       tiles = t .0;
       stacked = stacksOf-length w r;
       bins = ap suc (binsOf-length w r);
       none = refl;
-      listed = subst (suitAll w r 0) (sym v) (l .0);
+      listed = subst (suitAll v w r 0) (sym ev) (l .0);
       own = own;
       flagged = f .0;
       topP = f .1;
     }
 
 -- ---- a heap that is spelled is the one that is read
-pub chunk-small : (h : Heap) (w r : List ℕ) → 8 * length w ≤ 262144 → Spelled h w r → (x : ℕ) → 1 ≤ cnt x (starts h) → x < 262144
-chunk-small h w r a s x m =
+pub chunk-small : (v : ℕ) (h : Heap) (w r : List ℕ) → 8 * length w ≤ 262144 → Spelled v h w r → (x : ℕ) → 1 ≤ cnt x (starts h) → x < 262144
+chunk-small v h w r a s x m =
     let b : Start (h .tiles) 0 x = start (h .tiles) 0 x (s .tiles .sizes) m in
     omega (arith, s .tiles .top, s .tiles .least)
 
@@ -137,17 +139,17 @@ listsOf-read : (w r : List ℕ) (ls : List (List ℕ)) → length ls ≡ 200 →
 unfolding listsOf
 listsOf-read w r ls e g = subst (λ (n : ℕ). tabulate n (listAt w r) 0 ≡ ls) e g
 
-made : (h : Heap) (w r : List ℕ) → 8 * length w ≡ h .len → tilesOf w ≡ h .tiles → stacksOf w r ≡ h .stacks → [] ∷ binsOf w r ≡ h .bins → getD r remainderWord 0 ≡ h .remainder → view w r ≡ h
-made h w r a b c d e = rw (a, b, c, d, e)
+made : (h : Heap) (w r : List ℕ) → 8 * length w ≡ h .len → tilesOf w ≡ h .tiles → stacksOf w r ≡ h .stacks → [] ∷ binsOf w r ≡ h .bins → getD r remainderWord 0 ≡ h .remainder → keyIn r ≡ h .key → view w r ≡ h
+made h w r a b c d e f = rw (a, b, c, d, e, f)
 
-pub spelled-read : (h : Heap) (w r : List ℕ) → 8 * length w ≤ 262144 → Spelled h w r → view w r ≡ h
+pub spelled-read : (v : ℕ) (h : Heap) (w r : List ℕ) → 8 * length w ≤ 262144 → Spelled v h w r → view w r ≡ h
 unfolding tilesOf
-spelled-read h w r a s =
+spelled-read v h w r a s =
     let n : length (drop 1 (h .bins)) ≡ 126 = omega (arith, length-drop 1 (h .bins), s .bins) in
     let own : (x : ℕ) → cntAll x (lists h) ≤ cnt x (starts h) = λ x. omega (arith, total-lists x h (s .none), s .own x) in
     let et : tilesFrom (length w) w 0 ≡ h .tiles = tiles-read (length w) w 0 (h .tiles) (omega (arith, s .tiles .top, s .tiles .least)) (s .tiles) in
     let el : tabulate (length (lists h)) (listAt w r) 0 ≡ lists h =
-    lists-read 0 w r (lists h) (s .listed) (λ x k. chunk-small h w r a s x (omega (arith, own x)))
+    lists-read v 0 w r (lists h) (s .listed) (λ x k. chunk-small v h w r a s x (omega (arith, own x)))
     (λ l q. omega (arith, pigeons l (starts h) (λ x. omega (arith, q x, own x)), few w (h .tiles) (s .tiles))) in
     let e : stacksOf w r ++ binsOf w r ≡ h .stacks ++ drop 1 (h .bins) =
     view-lists w r ∙ listsOf-read w r (lists h) (omega (arith, length-append (h .stacks) (drop 1 (h .bins)), s .stacked)) el in
@@ -155,17 +157,17 @@ spelled-read h w r a s =
     sym (take-at (stacksOf w r) (binsOf w r) 74 (stacksOf-length w r)) ∙ ap (take 74) e ∙ take-at (h .stacks) (drop 1 (h .bins)) 74 (s .stacked) in
     let eb : binsOf w r ≡ drop 1 (h .bins) =
     sym (drop-at (stacksOf w r) (binsOf w r) 74 (stacksOf-length w r)) ∙ ap (drop 74) e ∙ drop-at (h .stacks) (drop 1 (h .bins)) 74 (s .stacked) in
-    made h w r (s .long) et es (ap (λ (bs : List (List ℕ)). [] ∷ bs) eb ∙ cons-first (h .bins) (omega (arith, s .bins)) (s .none)) (s .rest)
+    made h w r (s .long) et es (ap (λ (bs : List (List ℕ)). [] ∷ bs) eb ∙ cons-first (h .bins) (omega (arith, s .bins)) (s .none)) (s .rest) (s .key)
 
 -- ---- and the audit answers sound
-no-fault : (h : Heap) (w r : List ℕ) → Spelled h w r → faultIn h w r ≡ A.Sound
-no-fault h w r s =
+no-fault : (v : ℕ) (h : Heap) (w r : List ℕ) → Spelled v h w r → faultIn v h w r ≡ A.Sound
+no-fault v h w r s =
     rw (eq-eqb (getD r lengthWord 0) (8 * length w) (s .len), recordFault)
     (rw (s .top)
     (rw (tiles-complete w 0 (h .tiles) (s .tiles))
-    (rw (lists-complete 0 w r (starts h) (lists h) (s .listed) (λ x. omega (arith, total-lists x h (s .none), s .own x)))
+    (rw (lists-complete v 0 w r (starts h) (lists h) (s .listed) (λ x. omega (arith, total-lists x h (s .none), s .own x)))
     (flags-complete (binned h) (tileAt w (topOf h)) (topSize h) 0 0 0 (h .tiles) (s .topP) (s .flagged)))))
 
-pub spelled-audit : (h : Heap) (w r : List ℕ) → 8 * length w ≤ 262144 → Spelled h w r → auditOf w r ≡ A.Sound
-unfolding auditOf
-spelled-audit h w r a s = ap (λ (g : Heap). faultIn g w r) (spelled-read h w r a s) ∙ no-fault h w r s
+pub spelled-audit : (v : ℕ) (h : Heap) (w r : List ℕ) → 8 * length w ≤ 262144 → Spelled v h w r → auditBy v w r ≡ A.Sound
+unfolding auditBy
+spelled-audit v h w r a s = ap (λ (g : Heap). faultIn v g w r) (spelled-read v h w r a s) ∙ no-fault v h w r s

@@ -12,7 +12,7 @@ use Rattle.sizes.specs.Layout.{lengthWord, topWord}
 use Rattle.machine.specs.Lists.{both, cnt, cntAll}
 use Rattle.machine.specs.Heap.{endFrom, total, binned, live?}
 use Rattle.machine.specs.View.{tileAt, tilesOf, view}
-use Rattle.machine.specs.Audit.{sound?, first, recordFault, tileFault, listFault, flagFault, auditOf}
+use Rattle.machine.specs.Audit.{sound?, first, recordFault, tileFault, listFault, flagFault, auditBy}
 use Rattle.machine.specs.declared.Audited.{Audited}
 use Rattle.machine.specs.declared.Audited.the-variants as A
 use Rattle.sound.specs.Tiles.{starts-once}
@@ -37,61 +37,61 @@ live-test (suc a) b c e h = lt-ltb 0 (suc a) (omega arith) ∙ sym (rw (lt-ltb 0
 abbrev flagPart : List ℕ → List ℕ → Audited
 flagPart w r = flagFault (binned (view w r)) (tileAt w (endFrom 0 (tilesOf w))) 0 0 0 (tilesOf w)
 
-abbrev listPart : List ℕ → List ℕ → Audited
-listPart w r = first (listFault w r 0 (startsOf w) (listsOf w r)) (flagPart w r)
+abbrev listPart : ℕ → List ℕ → List ℕ → Audited
+listPart v w r = first (listFault v w r 0 (startsOf w) (listsOf w r)) (flagPart w r)
 
-abbrev tilePart : List ℕ → List ℕ → Audited
-tilePart w r = first (tileFault w (getD r topWord 0) 0 (tilesOf w)) (listPart w r)
+abbrev tilePart : ℕ → List ℕ → List ℕ → Audited
+tilePart v w r = first (tileFault w (getD r topWord 0) 0 (tilesOf w)) (listPart v w r)
 
-module _ (w r : List ℕ) where
-  in-parts : auditOf w r ≡ first (recordFault w r) (tilePart w r)
-  unfolding auditOf
-  in-parts = ap (λ (ls : List (List ℕ)). first (recordFault w r) (first (tileFault w (getD r topWord 0) 0 (tilesOf w)) (first (listFault w r 0 (startsOf w) ls) (flagPart w r)))) (view-lists w r)
+pub flagging : (w r : List ℕ) (t : Audited) (m : List ℕ) → TilesDone w (getD r topWord 0) t m → t ≡ A.Sound → Flagging w (getD r topWord 0)
+unfolding tilesOf
+flagging w r t m d z =
+    let k = tiles-sound (length w) w (getD r topWord 0) 0 (sym (d .is) ∙ z) in
+    record { tiles = k .0; atTop = k .1 }
 
-  pub audit-record : (m : List ℕ) → (getD r lengthWord 0 ≡ 8 * length w → ⊥) → AuditDone w r A.Record m
-  audit-record m n = record { is = sym (in-parts ∙ ap (λ (z : Audited). first z (tilePart w r)) rec); live = λ e. not-sound A.Record refl e }
+module _ (v : ℕ) (w r : List ℕ) where
+  in-parts : auditBy v w r ≡ first (recordFault w r) (tilePart v w r)
+  unfolding auditBy
+  in-parts = ap (λ (ls : List (List ℕ)). first (recordFault w r) (first (tileFault w (getD r topWord 0) 0 (tilesOf w)) (first (listFault v w r 0 (startsOf w) ls) (flagPart w r)))) (view-lists w r)
+
+  pub audit-record : (m : List ℕ) → (getD r lengthWord 0 ≡ 8 * length w → ⊥) → AuditDone v w r A.Record m
+  audit-record m n = record { is = sym (in-parts ∙ ap (λ (z : Audited). first z (tilePart v w r)) rec); live = λ e. not-sound A.Record refl e }
     where
       rec : recordFault w r ≡ A.Record
       rec = rw (ne-eqb (getD r lengthWord 0) (8 * length w) n, recordFault)
 
-  record-ok : getD r lengthWord 0 ≡ 8 * length w → auditOf w r ≡ tilePart w r
-  record-ok e = in-parts ∙ ap (λ (z : Audited). first z (tilePart w r)) rec
+  record-ok : getD r lengthWord 0 ≡ 8 * length w → auditBy v w r ≡ tilePart v w r
+  record-ok e = in-parts ∙ ap (λ (z : Audited). first z (tilePart v w r)) rec
     where
       rec : recordFault w r ≡ A.Sound
       rec = rw (eq-eqb (getD r lengthWord 0) (8 * length w) e, recordFault)
 
-  pub audit-tile : (t : Audited) (m m′ : List ℕ) → getD r lengthWord 0 ≡ 8 * length w → TilesDone w (getD r topWord 0) t m → sound? t ≡ false → AuditDone w r t m′
+  pub audit-tile : (t : Audited) (m m′ : List ℕ) → getD r lengthWord 0 ≡ 8 * length w → TilesDone w (getD r topWord 0) t m → sound? t ≡ false → AuditDone v w r t m′
   audit-tile t m m′ e d z = record {
-    is = sym (record-ok e ∙ ap (λ (x : Audited). first x (listPart w r)) (sym (d .is)) ∙ first-fault t (listPart w r) z);
+    is = sym (record-ok e ∙ ap (λ (x : Audited). first x (listPart v w r)) (sym (d .is)) ∙ first-fault t (listPart v w r) z);
     live = λ f. not-sound t z f;
   }
 
-  tiles-ok : (t : Audited) (m : List ℕ) → getD r lengthWord 0 ≡ 8 * length w → TilesDone w (getD r topWord 0) t m → t ≡ A.Sound → auditOf w r ≡ listPart w r
-  tiles-ok t m e d z = record-ok e ∙ ap (λ (x : Audited). first x (listPart w r)) (sym (d .is) ∙ z)
+  tiles-ok : (t : Audited) (m : List ℕ) → getD r lengthWord 0 ≡ 8 * length w → TilesDone w (getD r topWord 0) t m → t ≡ A.Sound → auditBy v w r ≡ listPart v w r
+  tiles-ok t m e d z = record-ok e ∙ ap (λ (x : Audited). first x (listPart v w r)) (sym (d .is) ∙ z)
 
-  pub audit-list : (t l : Audited) (m m′ m″ : List ℕ) → getD r lengthWord 0 ≡ 8 * length w → TilesDone w (getD r topWord 0) t m → t ≡ A.Sound → ListsDone w r l m′ → sound? l ≡ false
-      → AuditDone w r l m″
+  pub audit-list : (t l : Audited) (m m′ m″ : List ℕ) → getD r lengthWord 0 ≡ 8 * length w → TilesDone w (getD r topWord 0) t m → t ≡ A.Sound → ListsDone v w r l m′ → sound? l ≡ false
+      → AuditDone v w r l m″
   audit-list t l m m′ m″ e d z k y = record {
     is = sym (tiles-ok t m e d z ∙ ap (λ (x : Audited). first x (flagPart w r)) (sym (k .is)) ∙ first-fault l (flagPart w r) y);
     live = λ f. not-sound l y f;
   }
 
-  pub flagging : (t : Audited) (m : List ℕ) → TilesDone w (getD r topWord 0) t m → t ≡ A.Sound → Flagging w (getD r topWord 0)
-  unfolding tilesOf
-  flagging t m d z =
-      let k = tiles-sound (length w) w (getD r topWord 0) 0 (sym (d .is) ∙ z) in
-      record { tiles = k .0; atTop = k .1 }
-
-  live-marks : (t l : Audited) (m m′ : List ℕ) → TilesDone w (getD r topWord 0) t m → t ≡ A.Sound → ListsDone w r l m′ → l ≡ A.Sound → (x : ℕ) → unmet m′ x ≡ live? (view w r) x
+  live-marks : (t l : Audited) (m m′ : List ℕ) → TilesDone w (getD r topWord 0) t m → t ≡ A.Sound → ListsDone v w r l m′ → l ≡ A.Sound → (x : ℕ) → unmet m′ x ≡ live? (view w r) x
   live-marks t l m m′ d z k y x =
-      let g = flagging t m d z in
-      let c = listsOf-sound w r (startsOf w) (few w (tilesOf w) (g .tiles)) (sym (k .is) ∙ y) .1 x in
+      let g = flagging w r t m d z in
+      let c = listsOf-sound v w r (startsOf w) (few w (tilesOf w) (g .tiles)) (sym (k .is) ∙ y) .1 x in
       unmet-has w m′ (minusAll (startsOf w) (listsOf w r)) (binnedOf w r) (k .marks y) x
       ∙ live-test (cnt x (minusAll (startsOf w) (listsOf w r))) (total x (view w r)) (cnt x (startsOf w))
       (omega (arith, c, total-lists x (view w r) refl, ap (cntAll x) (view-lists w r))) (starts-once (tilesOf w) 0 x (g .tiles .sizes))
 
-  pub audit-flag : (t l f : Audited) (m m′ : List ℕ) → getD r lengthWord 0 ≡ 8 * length w → TilesDone w (getD r topWord 0) t m → t ≡ A.Sound → ListsDone w r l m′ → l ≡ A.Sound
-      → FlagsDone w m′ f → AuditDone w r f m′
+  pub audit-flag : (t l f : Audited) (m m′ : List ℕ) → getD r lengthWord 0 ≡ 8 * length w → TilesDone w (getD r topWord 0) t m → t ≡ A.Sound → ListsDone v w r l m′ → l ≡ A.Sound
+      → FlagsDone w m′ f → AuditDone v w r f m′
   audit-flag t l f m m′ e d z k y g = record {
     is = g (binned (view w r)) (λ x i. binned-later w r x ∙ bins-told w m′ _ (binnedOf w r) (k .marks y) x (d .marks z .marks .even x i))
         ∙ sym (tiles-ok t m e d z ∙ ap (λ (x : Audited). first x (flagPart w r)) (sym (k .is) ∙ y));

@@ -1,9 +1,11 @@
-// The audit: sound, or the first fault of arena and record, in the order record, tiles, lists, flags. Linear in the arena: each tile is read twice, each
-// chunk of a list once. The walks over the tiles stand in the crate audit_walks, the marks in call_look.rt.
+// The audit: sound, or the first fault of arena and record, in the order record, tiles, lists, flags. By the newest rules, or by those of a version that is
+// told: an older image is held against the rules of its own. Linear in the arena: each tile is read twice, each chunk of a list once. The walks over the
+// tiles stand in the crate audit_walks, the marks in call_look.rt.
 // Assumes nothing.
 mod lists; // lists.rt: the nested loop over lists and chunks
 mod call_look; // call_look.rt: what a call finds before it writes
 
+pub use call_look::audit_by;
 pub use call_look::audit_words;
 pub use call_look::look_at;
 ghost use mathlib.Core.Path.{_≡_};
@@ -22,9 +24,9 @@ pub enum Look {
 }
 
 // The marks m, all clear and one for each 16 bytes of arena, are lent: in a sound heap the unmet chunks are then exactly the live blocks.
-pub fn audit_marks(a: &[u8], r: &[u32], m: &mut [u8]) -> Audited
-    requires { ⌜ Bytes (now a) (now m) × (length (now r) ≡ 393) × Clear (now m) ⌝ }
-    ensures { λ f. ⌜ AuditDone (arenaWords (now (a .entry))) (now (r .entry)) f (now (m .exit)) ⌝ }
+pub fn audit_marks(a: &[u8], r: &[u32], m: &mut [u8], v: u32) -> Audited
+    requires { ⌜ Bytes (now a) (now m) × (length (now r) ≡ 395) × Clear (now m) ⌝ }
+    ensures { λ f. ⌜ AuditDone v (arenaWords (now (a .entry))) (now (r .entry)) f (now (m .exit)) ⌝ }
 {
     if r[sizes::LENGTH_WORD] as usize != a.len() {
         return Audited::Record;
@@ -34,7 +36,7 @@ pub fn audit_marks(a: &[u8], r: &[u32], m: &mut [u8]) -> Audited
     if !machine::is_sound(t) {
         return t;
     }
-    let l = lists::list_fault(a, r, m);
+    let l = lists::list_fault(a, r, m, v);
     if !machine::is_sound(l) {
         return l;
     }

@@ -1,5 +1,5 @@
 // Lists, in the order cache, fast, bins. A list is bad if it names an offset that is no chunk or is the top, a chunk met before, one of a size not its own,
-// a wrong back link or last, a wrong order, a count that is not its length, or more than 7. Assumes nothing.
+// a wrong back link or last, a wrong order, a count that is not its length, more than 7, or a wrong key. Assumes nothing.
 ghost use mathlib.Core.Path.{_≡_};
 ghost use lib.ListN.{length};
 ghost use Rattle.le.specs.Arena.{arenaWords};
@@ -13,12 +13,13 @@ use sizes::ALL_LISTS;
 use sizes::Chunk;
 use sizes::NONE64;
 
-// The first bad list, or sound; marks each chunk of a list with the list's mark, v. o: the sizes that the list owns; c: the chunk at hand; p, q: the one
-// before it and its size; n: how many came before.
-pub fn list_fault(a: &[u8], r: &[u32], m: &mut [u8]) -> Audited
-    requires { ⌜ Bytes (now a) (now m) × (length (now r) ≡ 393) × Started (arenaWords (now a)) (now m) ⌝ }
-    ensures { λ f. ⌜ ListsDone (arenaWords (now (a .entry))) (now (r .entry)) f (now (m .exit)) ⌝ }
+// The first bad list by version v of the rules, or sound; marks each chunk of a list with the list's mark, u. x: the key that cached chunks are asked for;
+// o: the sizes that the list owns; c: the chunk at hand; p, q: the one before it and its size; n: how many came before.
+pub fn list_fault(a: &[u8], r: &[u32], m: &mut [u8], v: u32) -> Audited
+    requires { ⌜ Bytes (now a) (now m) × (length (now r) ≡ 395) × Started (arenaWords (now a)) (now m) ⌝ }
+    ensures { λ f. ⌜ ListsDone v (arenaWords (now (a .entry))) (now (r .entry)) f (now (m .exit)) ⌝ }
 {
+    let x = audit_lists::asked_by(r, v);
     let mut fault = Audited::Sound;
     let mut i: u32 = 0;
     'lists: loop {
@@ -27,7 +28,7 @@ pub fn list_fault(a: &[u8], r: &[u32], m: &mut [u8]) -> Audited
             break;
         }
         let k = audit_lists::kind_at(j);
-        let v = audit_lists::mark(k);
+        let u = audit_lists::mark(k);
         let o = audit_lists::owned_by(k);
         let mut c = audit_lists::head(r, k);
         let mut p = Link(NONE64);
@@ -40,11 +41,11 @@ pub fn list_fault(a: &[u8], r: &[u32], m: &mut [u8]) -> Audited
             }
             let at = Chunk(c.0);
             let s = size_at(a, at);
-            if !audit_lists::may_stand(a, k, o, at, s, p, q, n) {
+            if !audit_lists::may_stand(a, k, o, x, at, s, p, q, n) {
                 fault = Audited::List(k);
                 break 'lists;
             }
-            m[(at.0 / 16) as usize] = v;
+            m[(at.0 / 16) as usize] = u;
             p = c;
             q = s;
             n += 1;

@@ -1,14 +1,18 @@
 // What the audit asks of one list, each against its definition in the machine: its kind, its mark, its head and end in the record, the sizes it owns,
-// whether a chunk was met. The loop over them stands in the crate audit. Assumes nothing.
+// the key of its chunks, whether a chunk was met. The loop over them stands in the crate audit. Assumes nothing.
 mod owns; // owns.rt: which sizes a list owns
+mod asks; // asks.rt: which key a cached chunk is asked for
 mod stands; // stands.rt: whether a chunk may stand in a list
 
+pub use asks::Asked;
+pub use asks::asked_by;
 pub use owns::Owned;
 pub use owns::owned_by;
 pub use stands::may_stand;
 ghost use mathlib.Core.Path.{_≡_};
 ghost use Prim.Native.Nat.{_<_};
 ghost use lib.ListN.{length, getD};
+ghost use Rattle.sizes.specs.Layout.{keyLow};
 ghost use Rattle.machine.specs.View.{up, kindAt, headWord};
 ghost use Rattle.machine.specs.Audit.{mayEnd};
 ghost use Rattle.audit_lists.specs.Listed.{unmet, markOf, tailWord};
@@ -60,7 +64,7 @@ pub fn unmet(m: &[u8], c: Link) -> bool
 }
 
 pub fn head(r: &[u32], k: ListKind) -> Link
-    requires { ⌜ (length (now r) ≡ 393) × (headWord k < 393) ⌝ }
+    requires { ⌜ (length (now r) ≡ 395) × (headWord k < keyLow) ⌝ }
     ensures { λ v. ⌜ v .0 ≡ up (getD (now (r .entry)) (headWord k) 0) ⌝ }
 {
     match k {
@@ -75,7 +79,7 @@ pub fn head(r: &[u32], k: ListKind) -> Link
 
 // Whether the list may end after the chunk p and n chunks in all.
 pub fn may_end(r: &[u32], k: ListKind, p: Link, n: u32) -> bool
-    requires { ⌜ (length (now r) ≡ 393) × (tailWord k < 393) ⌝ }
+    requires { ⌜ (length (now r) ≡ 395) × (tailWord k < keyLow) ⌝ }
     ensures { λ v. ⌜ v ≡ mayEnd k (now (r .entry)) (p .0) n ⌝ }
 {
     match k {

@@ -17,14 +17,15 @@ use sizes::NONE64;
 // The mark of a chunk that list 0 reaches; list i's is i more. One that none reaches keeps the mark of the tile walk.
 pub const FIRST_MARK: u8 = 2;
 
-// Marks the chunks that list i reaches with its mark, v. o: the sizes that the list owns; c: the chunk at hand; p, q: the one before it and its size; n: how
-// many came before.
-fn reach_list(a: &[u8], r: &[u32], m: &mut [u8], i: u32)
-    requires { ⌜ Bytes (now a) (now m) × (length (now r) ≡ 393) × (i < 200) × Before (arenaWords (now a)) (now r) (now m) i ⌝ }
-    ensures { λ _. ⌜ Before (arenaWords (now (a .entry))) (now (r .entry)) (now (m .exit)) (i + 1) ⌝ }
+// Marks the chunks that list i reaches by version v of the rules with its mark, u. x: the key that cached chunks are asked for; o: the sizes that the list
+// owns; c: the chunk at hand; p, q: the one before it and its size; n: how many came before.
+fn reach_list(a: &[u8], r: &[u32], m: &mut [u8], i: u32, v: u32)
+    requires { ⌜ Bytes (now a) (now m) × (length (now r) ≡ 395) × (i < 200) × Before v (arenaWords (now a)) (now r) (now m) i ⌝ }
+    ensures { λ _. ⌜ Before v (arenaWords (now (a .entry))) (now (r .entry)) (now (m .exit)) (i + 1) ⌝ }
 {
     let k = audit_lists::kind_at(i);
-    let v = FIRST_MARK + (i as u8);
+    let u = FIRST_MARK + (i as u8);
+    let x = audit_lists::asked_by(r, v);
     let o = audit_lists::owned_by(k);
     let mut c = audit_lists::head(r, k);
     let mut p = Link(NONE64);
@@ -36,10 +37,10 @@ fn reach_list(a: &[u8], r: &[u32], m: &mut [u8], i: u32)
         }
         let at = Chunk(c.0);
         let s = size_at(a, at);
-        if !audit_lists::may_stand(a, k, o, at, s, p, q, n) {
+        if !audit_lists::may_stand(a, k, o, x, at, s, p, q, n) {
             break;
         }
-        m[(at.0 / 16) as usize] = v;
+        m[(at.0 / 16) as usize] = u;
         p = c;
         q = s;
         n += 1;
@@ -47,14 +48,14 @@ fn reach_list(a: &[u8], r: &[u32], m: &mut [u8], i: u32)
     }
 }
 
-// The marks m are those that the tile walk leaves: each chunk but the top as one that no list had yet.
-pub fn reach(a: &[u8], r: &[u32], m: &mut [u8])
-    requires { ⌜ Bytes (now a) (now m) × (length (now r) ≡ 393) × Started (arenaWords (now a)) (now m) ⌝ }
-    ensures { λ _. ⌜ ReachedBy (arenaWords (now (a .entry))) (now (r .entry)) (now (m .exit)) ⌝ }
+// By version v of the rules. The marks m are those that the tile walk leaves: each chunk but the top as one that no list had yet.
+pub fn reach(a: &[u8], r: &[u32], m: &mut [u8], v: u32)
+    requires { ⌜ Bytes (now a) (now m) × (length (now r) ≡ 395) × Started (arenaWords (now a)) (now m) ⌝ }
+    ensures { λ _. ⌜ ReachedBy v (arenaWords (now (a .entry))) (now (r .entry)) (now (m .exit)) ⌝ }
 {
     let mut i: u32 = 0;
     while i < ALL_LISTS {
-        reach_list(a, r, m, i);
+        reach_list(a, r, m, i, v);
         i += 1;
     }
 }

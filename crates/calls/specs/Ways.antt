@@ -53,35 +53,35 @@ allowed-true n e =
     (eqb-true (n % 16) 0 (p .0), leb-true 32 n (q .0), leb-true n 262144 (q .1))
 
 -- good shape
-pub shape-true : (a r : List ℕ) → length r ≡ 1572 → arenaAllowed? (length a) ≡ true → shape? a r ≡ true
-shape-true a r e f = rw (eq-eqb (length r) 1572 e) f
+pub shape-true : (a r : List ℕ) → length r ≡ 1580 → arenaAllowed? (length a) ≡ true → shape? a r ≡ true
+shape-true a r e f = rw (eq-eqb (length r) 1580 e) f
 
 -- and what it says
 shape-parts : (a r : List ℕ) → shape? a r ≡ true → (eqb (length r) recordBytes ≡ true) × (arenaAllowed? (length a) ≡ true)
 shape-parts a r e = both-true (eqb (length r) recordBytes) (arenaAllowed? (length a)) e
 
-pub shape-long : (a r : List ℕ) → shape? a r ≡ true → length r ≡ 1572
+pub shape-long : (a r : List ℕ) → shape? a r ≡ true → length r ≡ 1580
 shape-long a r e = eqb-true (length r) recordBytes (shape-parts a r e .0)
 
 pub shape-allowed : (a r : List ℕ) → shape? a r ≡ true → arenaAllowed? (length a) ≡ true
 shape-allowed a r e = shape-parts a r e .1
 
 -- ---- open
-pub open-small : (a r : List ℕ) → eqb (length r) recordBytes ≡ false → after a r (Refused R.Shape) ≡ openCall a r
+pub open-small : (a r : List ℕ) (q : ℕ) → eqb (length r) recordBytes ≡ false → after a r (Refused R.Shape) ≡ openCall a r q
 unfolding openCall
-open-small a r e = rw (e, openCall)
+open-small a r q e = rw (e, openCall)
 
-pub open-refused : (a r : List ℕ) → eqb (length r) recordBytes ≡ true → arenaAllowed? (length a) ≡ false → after a (bytes 4 (blank 0 4294967295)) (Refused R.Shape) ≡ openCall a r
+pub open-refused : (a r : List ℕ) (q : ℕ) → eqb (length r) recordBytes ≡ true → arenaAllowed? (length a) ≡ false → after a (bytes 4 (blank 0 4294967295 0)) (Refused R.Shape) ≡ openCall a r q
 unfolding openCall
-open-refused a r e f = rw (e, openCall) (rw f (ap (λ (l : List ℕ). after a (bytes 4 l) (Refused R.Shape)) (sym closed-blank)))
+open-refused a r q e f = rw (e, openCall) (rw f (ap (λ (l : List ℕ). after a (bytes 4 l) (Refused R.Shape)) (sym closed-blank)))
 
-pub open-done : (a r b : List ℕ) → eqb (length r) recordBytes ≡ true → arenaAllowed? (length a) ≡ true → Octets b → arenaWords b ≡ put (size 0 (length a) 1) (arenaWords a)
-    → after b (bytes 4 (blank (length a) 0)) Done ≡ openCall a r
+pub open-done : (a r b : List ℕ) (q : ℕ) → eqb (length r) recordBytes ≡ true → arenaAllowed? (length a) ≡ true → Octets b → arenaWords b ≡ put (size 0 (length a) 1) (arenaWords a)
+    → after b (bytes 4 (blank (length a) 0 q)) Done ≡ openCall a r q
 unfolding openCall
-open-done a r b e f o p =
+open-done a r b q e f o p =
     rw (e, openCall) (rw f
-    (ap (λ (l : List ℕ). after l (bytes 4 (blank (length a) 0)) Done) (sym (bytes-arenaWords b (o .even) (o .small)) ∙ ap (bytes 8) p)
-    ∙ ap (λ (l : List ℕ). after (bytes 8 (put (size 0 (length a) 1) (arenaWords a))) (bytes 4 l) Done) (sym (opened-blank (length a)))))
+    (ap (λ (l : List ℕ). after l (bytes 4 (blank (length a) 0 q)) Done) (sym (bytes-arenaWords b (o .even) (o .small)) ∙ ap (bytes 8) p)
+    ∙ ap (λ (l : List ℕ). after (bytes 8 (put (size 0 (length a) 1) (arenaWords a))) (bytes 4 l) Done) (sym (opened-blank (length a) q))))
 
 -- ---- audit
 pub audit-shape : (a r : List ℕ) → shape? a r ≡ false → A.Shape ≡ auditCall a r

@@ -1,4 +1,4 @@
-// Open: the length with P at byte 8, and the record of one tile, the top. A refused open leaves a closed record, where there is one of 1,572 bytes.
+// Open: the length with P at byte 8, and the record of one tile, the top. A refused open leaves a closed record, where there is one of 1,580 bytes.
 ghost use mathlib.Core.Path.{_≡_};
 ghost use Rattle.machine.specs.Calls.{after, openCall};
 ghost use Rattle.calls.specs.Blank.{blank, empty};
@@ -13,10 +13,10 @@ use sizes::NONE32;
 use sizes::RECORD_BYTES;
 use sizes::TOP_WORD;
 
-// A record with length n and top t, counts 0, and no chunk anywhere.
-fn fill(r: &mut [u32], n: u32, t: u32)
+// A record with length n and top t, counts 0, no chunk anywhere, and the key.
+fn fill(r: &mut [u32], n: u32, t: u32, key: u64)
     requires { ⌜ now r ≡ empty ⌝ }
-    ensures { λ _. ⌜ now (r .exit) ≡ blank n t ⌝ }
+    ensures { λ _. ⌜ now (r .exit) ≡ blank n t key ⌝ }
 {
     r[LENGTH_WORD] = n;
     r[TOP_WORD] = t;
@@ -25,22 +25,23 @@ fn fill(r: &mut [u32], n: u32, t: u32)
         r[CACHE_COUNTS + k] = 0;
         k += 1;
     }
+    chunk_fields::set_key_in(r, key);
 }
 
-pub fn open(arena: &mut [u8], control: &mut [u8]) -> Answer
-    ensures { λ x. ⌜ after (now (arena .exit)) (now (control .exit)) x ≡ openCall (now (arena .entry)) (now (control .entry)) ⌝ }
+pub fn open(arena: &mut [u8], control: &mut [u8], key: u64) -> Answer
+    ensures { λ x. ⌜ after (now (arena .exit)) (now (control .exit)) x ≡ openCall (now (arena .entry)) (now (control .entry)) key ⌝ }
 {
     if control.len() != RECORD_BYTES {
         return Answer::Refused(Refusal::Shape);
     }
-    let mut r = [NONE32; 393];
+    let mut r = [NONE32; 395];
     let n = arena.len();
     if !allowed(n) {
-        fill(&mut r, 0, NONE32);
+        fill(&mut r, 0, NONE32, 0);
         record_words::write_words(control, &r);
         return Answer::Refused(Refusal::Shape);
     }
-    fill(&mut r, n as u32, 0);
+    fill(&mut r, n as u32, 0, key);
     record_words::write_words(control, &r);
     chunk_fields::set_size(arena, Chunk(0), n as u64, true);
     Answer::Done

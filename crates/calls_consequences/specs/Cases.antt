@@ -52,13 +52,13 @@ both-live : (h : Heap) (m : ℕ) → 16 ≤ m → live? h (m - 16) ≡ true → 
 both-live h m l e = ap (λ (t : Bool). both t (live? h (m - 16))) (le-leb 16 m l) ∙ e
 
 -- ---- the calls
-pub open-called : (a r : List ℕ) → Lent a r → left a (opened (length a)) (size 0 (length a) 1 ∷ []) Done ≡ openCall a r
+pub open-called : (a r : List ℕ) (q : ℕ) → Lent a r → left a (opened (length a) q) (size 0 (length a) 1 ∷ []) Done ≡ openCall a r q
 unfolding openCall
-open-called a r L =
-    let x : After = left a (opened (length a)) (size 0 (length a) 1 ∷ []) Done in
+open-called a r q L =
+    let x : After = left a (opened (length a) q) (size 0 (length a) 1 ∷ []) Done in
     let y : After = after a (bytes 4 closedRecord) (Refused R.Shape) in
     ap (λ (t : Bool). elim t [ true ↦ x | false ↦ y ]) (sym (lent-shape a r L .0))
-    ∙ ap (λ (t : Bool). elim t [ true ↦ elim (arenaAllowed? (length a)) [ true ↦ x | false ↦ y ] | false ↦ refused a r R.Shape ]) (sym (eq-eqb (length r) 1572 (L .long)))
+    ∙ ap (λ (t : Bool). elim t [ true ↦ elim (arenaAllowed? (length a)) [ true ↦ x | false ↦ y ] | false ↦ refused a r R.Shape ]) (sym (eq-eqb (length r) 1580 (L .long)))
 
 module _ (a r : List ℕ) (L : Lent a r) (P : After → Type 0) where
   good : shape? a r ≡ true

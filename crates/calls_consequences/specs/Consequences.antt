@@ -4,7 +4,7 @@ use mathlib.Core.Path.{_≡_, refl, sym, ap, _∙_, subst}
 use mathlib.Core.List.{List, [], _∷_}
 use mathlib.Core.Bool.{Bool, true, false}
 use mathlib.Core.Logic.{inl, inr, ⊎-elim}
-use Prim.Native.Nat.{ℕ, _+_, _-_, _*_, _≤_, _<_}
+use Prim.Native.Nat.{ℕ, _+_, _-_, _*_, _≤_, _<_, _^_}
 use native.Mathlib.Omega.{arith}
 use lib.Dec.{eqb}
 use lib.ListN.{length, getD}
@@ -21,7 +21,7 @@ use Rattle.machine.specs.Heap.{Heap, stack, cache, bin, opened, starts, sizeOf,
 use Rattle.machine.specs.Writes.{size, Ran, does, heapOf, writes}
 use Rattle.machine.specs.Release.{release, emptying, joining}
 use Rattle.machine.specs.Grant.{grant}
-use Rattle.machine.specs.Audit.{sound?, first, recordFault, auditOf}
+use Rattle.machine.specs.Audit.{sound?, first, recordFault, auditBy, auditOf}
 use Rattle.machine.specs.Calls.{After, after, shape?, arenaAllowed?, wordsOf, heapIn, closedRecord, openCall, grantCall, releaseCall, jobCall, emptyingCall, joiningCall, joinedAfter, auditCall}
 use Rattle.machine.specs.declared.{Got.Got, Got.the-variants.Nothing}
 use Rattle.machine.specs.declared.Refusal.{Refusal}
@@ -70,7 +70,7 @@ first-fault : (x y : Audited) → sound? x ≡ false → sound? (first x y) ≡ 
 first-fault x y e = ap (λ (t : Bool). sound? (elim t [ true ↦ y | false ↦ x ])) e ∙ e
 
 pub closed-unsound : (a : List ℕ) → 32 ≤ length a → UnsoundIn a (bytes 4 closedRecord)
-unfolding auditOf
+unfolding auditBy
 closed-unsound a l =
     let e : eqb (getD (wordsOf (bytes 4 closedRecord)) lengthWord 0) (8 * length (arenaWords a)) ≡ false =
     ap (λ (n : ℕ). eqb n (8 * length (arenaWords a))) closed-length ∙ ne-eqb 0 (8 * length (arenaWords a)) (λ z. omega (arith, z, length-arenaWords a)) in
@@ -193,9 +193,9 @@ module _ (a r : List ℕ) (L : Lent a r) where
   job-ends : (f : Heap → Ran (Unit {0})) → Job f → SoundIn a r → Ends (f (heapIn a r)) (arenaWords a) Fine
   job-ends f J S = J .ends (heapIn a r) (arenaWords a) (lent-fine a r L S) (heard S .mem)
 
-  open-ends : Ends (does (opened (length a)) (size 0 (length a) 1 ∷ [])) (arenaWords a) Fine
-  open-ends =
-      let o = opened-ends (length a) (arenaWords a) (L .even) (L .least) (L .most) (omega (arith, length-arenaWords a, L .even)) in
+  open-ends : (q : ℕ) → q < 2 ^ 64 → Ends (does (opened (length a) q) (size 0 (length a) 1 ∷ [])) (arenaWords a) Fine
+  open-ends q b =
+      let o = opened-ends (length a) q (arenaWords a) b (L .even) (L .least) (L .most) (omega (arith, length-arenaWords a, L .even)) in
       record { mem = o .1; now = record { good = o .0; low = omega arith } }
 
   -- ---- numbers 1 to 4 write nothing
@@ -232,8 +232,8 @@ module _ (a r : List ℕ) (L : Lent a r) where
       (λ l S c q. (λ e. clash (cc), λ e. clash (cc)))
 
   -- ---- the bytes left spell the heap that the steps left
-  pub open-heap : heapLeft (openCall a r) ≡ opened (length a)
-  open-heap = ap heapLeft (sym (open-called a r L)) ∙ left-heap a r (does (opened (length a)) (size 0 (length a) 1 ∷ [])) Done L open-ends
+  pub open-heap : (q : ℕ) → q < 2 ^ 64 → heapLeft (openCall a r q) ≡ opened (length a) q
+  open-heap q b = ap heapLeft (sym (open-called a r q L)) ∙ left-heap a r (does (opened (length a) q) (size 0 (length a) 1 ∷ [])) Done L (open-ends q b)
 
   pub grant-heap : (n : ℕ) → SoundIn a r → n ≤ 262144 → heapLeft (grantCall a r n) ≡ heapOf (grant (need n) (heapIn a r))
   grant-heap n S l = grant-cases a r L (λ x. heapLeft x ≡ heapOf (grant (need n) (heapIn a r))) n
@@ -252,8 +252,8 @@ module _ (a r : List ℕ) (L : Lent a r) where
       (λ U. no-yes a r S U) (λ S. left-heap a r (f (heapIn a r)) Done L (job-ends f J S))
 
   -- ---- an opened heap is sound, and what is sound stays sound and of good shape in every call, refused or not
-  pub open-sound : StaysSound (openCall a r)
-  open-sound = subst StaysSound (open-called a r L) (left-stays a r (does (opened (length a)) (size 0 (length a) 1 ∷ [])) Done L open-ends)
+  pub open-sound : (q : ℕ) → q < 2 ^ 64 → StaysSound (openCall a r q)
+  open-sound q b = subst StaysSound (open-called a r q L) (left-stays a r (does (opened (length a) q) (size 0 (length a) 1 ∷ [])) Done L (open-ends q b))
 
   pub same-stays : (x : Answer) → SoundIn a r → StaysSound (after a r x)
   same-stays x S = record { lent = L; sound = S }

@@ -56,8 +56,8 @@ module _ (a r : List ℕ) (L : Lent a r) where
       resize-resized (heapIn a r) (arenaWords a) (m - 16) (need n) (heard S .good) (heard S .mem) (live-loose (heapIn a r) (m - 16) (v .1)) (need-bounds n .whole) (need-bounds n .least)
       .leaves .moved .past
 
-  open-first : FirstKept a (openCall a r)
-  open-first = subst (FirstKept a) (open-called a r L) (kept (size 0 (length a) 1 ∷ []) (omega arith, tt))
+  open-first : (q : ℕ) → FirstKept a (openCall a r q)
+  open-first q = subst (FirstKept a) (open-called a r q L) (kept (size 0 (length a) 1 ∷ []) (omega arith, tt))
 
   grant-first : (n : ℕ) → FirstKept a (grantCall a r n)
   grant-first n =
@@ -79,7 +79,7 @@ module _ (a r : List ℕ) (L : Lent a r) where
       (λ z. grant-first n) (λ z k. release-first m) (λ z l i j. refl) (λ z k U i j. refl) (λ z k S d i j. refl)
       (λ k i S v q. kept ws (resize-past m n S v)) (λ k i S v c q. kept ws (resize-past m n S v))
 
-  pub first-bytes-kept : (m n : ℕ) → FirstKept a (openCall a r) × FirstKept a (grantCall a r n) × FirstKept a (releaseCall a r m)
+  pub first-bytes-kept : (q m n : ℕ) → FirstKept a (openCall a r q) × FirstKept a (grantCall a r n) × FirstKept a (releaseCall a r m)
       × FirstKept a (resizeCall a r m n) × FirstKept a (emptyingCall a r) × FirstKept a (joiningCall a r)
-  first-bytes-kept m n =
-      (open-first, grant-first n, release-first m, resize-first m n, job-first emptying emptying-job, job-first joining joining-job)
+  first-bytes-kept q m n =
+      (open-first q, grant-first n, release-first m, resize-first m n, job-first emptying emptying-job, job-first joining joining-job)

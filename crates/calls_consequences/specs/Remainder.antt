@@ -12,7 +12,7 @@ use Rattle.sizes.specs.Sizes.{cacheOf, fastOf, binOf}
 use Rattle.machine.specs.Lists.{both, hd, lst, some?, cnt}
 use Rattle.machine.specs.Heap.{Heap, stack, cache, fastAt, fast, bin, anyFast?, topOf, topSize, sizeOf, pOf, next, before, binned, binHas}
 use Rattle.machine.specs.Writes.{Write, apply, Ran, ran, heapOf, writes, does, giving, more, _>>=_, _orElse_}
-use Rattle.machine.specs.Primitives.{push, pop, pushCache, linkIn, putFirst, unlink, clearP, setP, toTop, cutTop, setRemainder, widen, trimAt, growTop}
+use Rattle.machine.specs.Primitives.{push, pop, pushCache, takeCache, linkIn, putFirst, unlink, clearP, setP, toTop, cutTop, setRemainder, widen, trimAt, growTop}
 use Rattle.machine.specs.Release.{absorb, joinNext, putDown, join, drain, drains, consolidate, joined, releasePast, release, emptying, joining}
 use Rattle.machine.specs.Grant.{roomFor?, step1, moveFast, step2, takeLast, moveLasts, step3, step4, split, front, behind, sortIn, lone?, splitLone, keep, turnAt, turn, swept, afterTurn, sweep, step5, carve, step8, fit, step6, firstBin, step7, step9, pass, again, from4, seek, grant}
 use Rattle.machine.specs.Resize.{nextP, finish, copies, moved, resize}
@@ -57,7 +57,7 @@ low-turn (ran h ws T.Empty) k s o l x y z = low-more ws (o h) z
 module _ (b : ℕ) where
   step1-low : (h : Heap) → h .remainder ≤ none32 → Low (step1 b h)
   unfolding step1
-  step1-low h l = low-if (both (leb b mostCached) (some? (cache h (cacheOf b)))) (pop (cacheOf b) h) (ran h [] Nothing) (λ e. l) (λ e. l)
+  step1-low h l = low-if (both (leb b mostCached) (some? (cache h (cacheOf b)))) (takeCache (cacheOf b) h) (ran h [] Nothing) (λ e. l) (λ e. l)
 
   moveFast-low : (xs : List ℕ) (h : Heap) → h .remainder ≤ none32 → Low (moveFast b xs h)
   unfolding moveFast
@@ -280,16 +280,16 @@ join-low c h l = low-if (eqb (pOf h c) 0) (absorb (before h c) (before h c) h >>
     rest-low : (q : ℕ) (h : Heap) → h .remainder ≤ none32 → Low (rest q h)
     rest-low q h l = low-then (joinNext q h) (λ h. putDown q h) (joinNext-low q h l) (putDown-low q)
 
-drain-low : (k : ℕ) (l : List ℕ) (h : Heap) → h .remainder ≤ none32 → Low (drain join k l h)
+drain-low : (k : ℕ) (l : List ℕ) (h : Heap) → h .remainder ≤ none32 → Low (drain pop join k l h)
 unfolding drain
 drain-low k [] h i = i
-drain-low k (c ∷ l) h i = low-then (pop k h) (λ h. join c h >>= (λ h. drain join k l h)) i
-    (λ g j. low-then (join c g) (λ h. drain join k l h) (join-low c g j) (λ f m. drain-low k l f m))
+drain-low k (c ∷ l) h i = low-then (pop k h) (λ h. join c h >>= (λ h. drain pop join k l h)) i
+    (λ g j. low-then (join c g) (λ h. drain pop join k l h) (join-low c g j) (λ f m. drain-low k l f m))
 
-drains-low : (n k : ℕ) (h : Heap) → h .remainder ≤ none32 → Low (drains join n k h)
+drains-low : (n k : ℕ) (h : Heap) → h .remainder ≤ none32 → Low (drains pop join n k h)
 unfolding drains
 drains-low zero k h l = l
-drains-low (suc n) k h l = low-then (drain join k (stack h k) h) (λ h. drains join n (suc k) h) (drain-low k (stack h k) h l) (λ g i. drains-low n (suc k) g i)
+drains-low (suc n) k h l = low-then (drain pop join k (stack h k) h) (λ h. drains pop join n (suc k) h) (drain-low k (stack h k) h l) (λ g i. drains-low n (suc k) g i)
 
 joined-low : (r : Ran ℕ) → Low r → Low (joined r)
 unfolding consolidate

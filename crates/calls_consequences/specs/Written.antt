@@ -3,13 +3,13 @@
 use mathlib.Core.Path.{_≡_, ap, _∙_}
 use mathlib.Core.List.{List, [], _∷_}
 use mathlib.Core.Logic.{⊎-elim}
-use Prim.Native.Nat.{ℕ, _+_, _*_, _≤_}
+use Prim.Native.Nat.{ℕ, _+_, _*_, _≤_, _/_, _%_, _^_, _<_}
 use native.Mathlib.Omega.{arith}
 use lib.ListN.{length, getD}
 use Rattle.le.specs.Number.{bytes}
 use Rattle.le.specs.Arena.{arenaWords}
 use Rattle.sizes.specs.Limits.{none64, none32, recordWords}
-use Rattle.sizes.specs.Layout.{prevWord, sizeWord, fwdWord, backWord, lengthWord, topWord, remainderWord, cacheHead, cacheCount, fastHead, binFirst, binLast}
+use Rattle.sizes.specs.Layout.{prevWord, sizeWord, fwdWord, backWord, lengthWord, topWord, remainderWord, cacheHead, cacheCount, fastHead, binFirst, binLast, keyLow, keyHigh, keyWord}
 use Rattle.machine.specs.Lists.{hd, lst, cnt}
 use Rattle.machine.specs.Count.{ind-same, cnt-here, cnt-there, cnt-le-all}
 use Rattle.machine.specs.Heap.{Tile, tile, Heap, topSize, stack, cache, fast, fastAt, bin, binned, endFrom, topOf, starts, sizeOf, recordOf}
@@ -91,11 +91,13 @@ module _ (h : Heap) (g : Good h) where
     words = tiles-cut (λ x. binned h x) w 0 0 0 (all h) (g .shape .sizes) (g .flag) (omega arith) (omega (arith, end-all h (g .shape .sizes), g .shape .small)) (m .words);
     chains = λ k. chain-cut w (stack h k) (stack-most k) (m .chains k);
     blinks = λ j. links-cut w none64 (bin h j) (omega arith) (bin-most j) (m .blinks j);
+    keys = λ z k x p i. kept8 w (keyWord x) (h .key) (m .keys z k x p i) (omega (arith, m .key64));
+    key64 = m .key64;
   }
 
   -- ---- the record's words
-  pub record-cut : h .remainder ≤ none32 → cut 4 (recordOf h) ≡ recordOf h
-  record-cut low =
+  record-cut : h .remainder ≤ none32 → h .key < 2 ^ 64 → cut 4 (recordOf h) ≡ recordOf h
+  record-cut low small =
       let o = record-words h (g .shape .stacked74) (g .shape .binned127) in
       let r : List ℕ = recordOf h in
       record-ext h (cut 4 r) (g .shape .stacked74) (g .shape .binned127) (record {
@@ -108,13 +110,15 @@ module _ (h : Heap) (g : Good h) where
         fasts = λ k l. kept4 r (fastHead k) (hd none32 (fast h k)) (o .fasts k l) (hd-most none32 (fast h k) (omega arith) (stack-most (fastAt k)));
         firsts = λ j l m. kept4 r (binFirst j) (hd none32 (bin h j)) (o .firsts j l m) (hd-most none32 (bin h j) (omega arith) (bin-most j));
         lasts = λ j l m. kept4 r (binLast j) (lst none32 (bin h j)) (o .lasts j l m) (lst-most none32 none32 (bin h j) (omega arith) (omega arith) (bin-most j));
+        low = kept4 r keyLow (h .key % 2 ^ 32) (o .low) (omega arith);
+        high = kept4 r keyHigh (h .key / 2 ^ 32) (o .high) (omega arith);
       })
 
   pub written-sound : (w : List ℕ) → Mem h w → h .remainder ≤ none32 → Sound h (arenaWords (bytes 8 w)) (wordsOf (bytes 4 (recordOf h)))
   written-sound w m low = record {
     good = g;
     mem = rw (arenaWords-cut w) (mem-cut w m);
-    rec = words-cut 4 recordWords (recordOf h) (record-words h (g .shape .stacked74) (g .shape .binned127) .all) ∙ record-cut low;
+    rec = words-cut 4 recordWords (recordOf h) (record-words h (g .shape .stacked74) (g .shape .binned127) .all) ∙ record-cut low (m .key64);
   }
 
   pub written-read : (w : List ℕ) → Mem h w → h .remainder ≤ none32 → heapIn (bytes 8 w) (bytes 4 (recordOf h)) ≡ h

@@ -1,7 +1,10 @@
-// The one place that knows where a field of a chunk lies in the arena, and how a link and a size word are written there.
+// The one place that knows where a field of a chunk lies in the arena, and how a link, a size word and the key are written there and in the record.
 // Each write of a field is a write of the machine.
+mod keys; // keys.rt: the record's key
 mod links; // links.rt: the two ways of writing 'none'
 
+pub use keys::key_in;
+pub use keys::set_key_in;
 pub use links::link_of;
 pub use links::word_of;
 use sizes::Chunk;
@@ -10,9 +13,9 @@ ghost use mathlib.Core.Path.{_≡_};
 ghost use Prim.Native.Nat.{_+_, _*_, _/_, _%_, _≤_, _<_, _^_};
 ghost use lib.ListN.{length, getD};
 ghost use Rattle.le.specs.Arena.{arenaWords};
-ghost use Rattle.sizes.specs.Layout.{prevWord, sizeWord, fwdWord, backWord};
+ghost use Rattle.sizes.specs.Layout.{prevWord, sizeWord, fwdWord, backWord, keyWord};
 ghost use Rattle.sizes.specs.SizeWord.{bit};
-ghost use Rattle.machine.specs.Writes.{size, note, fwd, back, copy, put};
+ghost use Rattle.machine.specs.Writes.{size, note, fwd, back, key, copy, put};
 ghost use Rattle.machine.specs.View.{sizeAt};
 
 // A link of the arena: a chunk's offset, or NONE64 for the end.
@@ -55,6 +58,14 @@ pub fn back_at(a: &[u8], c: Chunk) -> Link
     Link(le::word(a, (c.0 + 24) as usize))
 }
 
+// The word of a cached chunk that has the key.
+pub fn key_at(a: &[u8], c: Chunk) -> u64
+    requires { ⌜ (c .0 % 8 ≡ 0) × (c .0 + 32 ≤ length (now a)) ⌝ }
+    ensures { λ r. ⌜ r ≡ getD (arenaWords (now (a .entry))) (keyWord (c .0)) 0 ⌝ }
+{
+    le::word(a, (c.0 + 24) as usize)
+}
+
 // The usable word i of c; the last is the previous size that is noted behind c.
 pub fn usable_word_at(a: &[u8], c: Chunk, i: u64) -> u64
     requires { ⌜ (c .0 % 8 ≡ 0) × (c .0 + 24 + 8 * i ≤ length (now a)) ⌝ }
@@ -91,6 +102,13 @@ pub fn set_back(a: &mut [u8], c: Chunk, x: Link)
     ensures { λ _. ⌜ arenaWords (now (a .exit)) ≡ put (back (c .0) (x .0)) (arenaWords (now (a .entry))) ⌝ }
 {
     le::set_word(a, (c.0 + 24) as usize, x.0);
+}
+
+pub fn set_key(a: &mut [u8], c: Chunk, q: u64)
+    requires { ⌜ (c .0 % 8 ≡ 0) × (c .0 + 32 ≤ length (now a)) ⌝ }
+    ensures { λ _. ⌜ arenaWords (now (a .exit)) ≡ put (key (c .0) q) (arenaWords (now (a .entry))) ⌝ }
+{
+    le::set_word(a, (c.0 + 24) as usize, q);
 }
 
 // The usable word i of d becomes that of c.

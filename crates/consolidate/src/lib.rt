@@ -9,6 +9,7 @@ ghost use Prim.Native.Nat.{_<_};
 ghost use lib.ListN.{length};
 ghost use Rattle.le.specs.Arena.{arenaWords};
 ghost use Rattle.machine.specs.Heap.{fastAt};
+ghost use Rattle.machine.specs.Primitives.{pop};
 ghost use Rattle.machine.specs.Release.{join, consolidate};
 ghost use Rattle.sound.specs.Relation.{Good};
 ghost use Rattle.primitives.specs.Follow.{Has, Does};
@@ -18,7 +19,7 @@ ghost use Rattle.consolidate.specs.AnyFast.{Told};
 // Fast list k is emptied from its head, each chunk joined.
 fn drain_fast(a: &mut [u8], r: &mut [u32], k: usize)
     requires { ⌜ (k < 10) × Has Good (arenaWords (now a)) (now r) ⌝ }
-    ensures { λ _. ⌜ Does (Unit {0}) Good (drainOf join (fastAt k)) (arenaWords (now (a .entry))) (now (r .entry)) tt (arenaWords (now (a .exit))) (now (r .exit)) ⌝ }
+    ensures { λ _. ⌜ Does (Unit {0}) Good (drainOf pop join (fastAt k)) (arenaWords (now (a .entry))) (now (r .entry)) tt (arenaWords (now (a .exit))) (now (r .exit)) ⌝ }
 {
     while r[FAST_HEADS + k] != NONE32 {
         let c = take_fast(a, r, k);
@@ -38,7 +39,7 @@ pub fn consolidate(a: &mut [u8], r: &mut [u32])
 }
 
 pub fn any_fast(r: &[u32]) -> bool
-    requires { ⌜ length (now r) ≡ 393 ⌝ }
+    requires { ⌜ length (now r) ≡ 395 ⌝ }
     ensures { λ t. ⌜ Told (now (r .entry)) t ⌝ }
 {
     let mut k: usize = 0;

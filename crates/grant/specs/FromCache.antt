@@ -10,7 +10,7 @@ use Rattle.sizes.specs.Sizes.{cacheOf}
 use Rattle.machine.specs.Lists.{both, tl, some?}
 use Rattle.machine.specs.Heap.{Heap, stack, withStack, recordOf}
 use Rattle.machine.specs.Writes.{Ran, heapOf, nothing}
-use Rattle.machine.specs.Primitives.{pop}
+use Rattle.machine.specs.Primitives.{takeCache}
 use Rattle.machine.specs.Grant.{step1}
 use Rattle.machine.specs.Calls.{wordsOf}
 use Rattle.machine.specs.declared.{Got.Got, Got.the-variants.At}
@@ -25,7 +25,7 @@ unfolding step1
 step1-found b h c e = go (leb b mostCached) refl (some? (stack h (cacheOf b))) e
   where
     one : Bool → Ran Got
-    one t = elim t [ true ↦ pop (cacheOf b) h | false ↦ nothing h ]
+    one t = elim t [ true ↦ takeCache (cacheOf b) h | false ↦ nothing h ]
 
     go : (t : Bool) → leb b mostCached ≡ t → (u : Bool) → answer (one (both t u)) ≡ At c
         → (b ≤ mostCached) × (heapOf (one (both t u)) ≡ withStack (cacheOf b) (tl (stack h (cacheOf b))) h)

@@ -8,7 +8,7 @@ use Rattle.sizes.specs.Layout.{cacheCount}
 use Rattle.sizes.specs.Sizes.{cacheOf}
 use Rattle.machine.specs.Heap.{Heap, stack}
 use Rattle.machine.specs.Writes.{giving}
-use Rattle.machine.specs.Primitives.{push}
+use Rattle.machine.specs.Primitives.{pushCache}
 use Rattle.machine.specs.Grant.{keep}
 use Rattle.machine.specs.declared.{Turn.Turn}
 use Rattle.machine.specs.declared.Turn.the-variants as T
@@ -24,8 +24,8 @@ module _ (h : Heap) (w r : List ℕ) (b c : ℕ) (o : Ok h w r) (t : Bool) (et :
   keep-granted-gave n = gave-by (rw (takes-is h w r b o t et ∙ n, keep)) (gave-none h (T.Granted c) w r (o .rec))
 
   pub keep-cached-gave : t ≡ true → (k : ℕ) → k ≡ cacheOf b → Loose h c → (v q : List ℕ)
-      → Does (Unit {0}) (λ h. Loose h c × (length (stack h k) < 7)) (push k c) w r tt v q → Gave Turn (keep b c h) T.Cached w v q
+      → Does (Unit {0}) (λ h. Loose h c × (length (stack h k) < 7)) (pushCache k c) w r tt v q → Gave Turn (keep b c h) T.Cached w v q
   unfolding keep
   keep-cached-gave y k ek lo v q d =
-      gave-by (rw (takes-is h w r b o t et ∙ y, keep) (ap (λ (k : ℕ). giving T.Cached (push k c h)) (sym ek)))
-      (gave-giving (push k c h) tt T.Cached (d .does h o (lo, takes-room h w r b o t et y k ek)))
+      gave-by (rw (takes-is h w r b o t et ∙ y, keep) (ap (λ (k : ℕ). giving T.Cached (pushCache k c h)) (sym ek)))
+      (gave-giving (pushCache k c h) tt T.Cached (d .does h o (lo, takes-room h w r b o t et y k ek)))

@@ -17,7 +17,7 @@ use Rattle.machine.specs.Lists.{both, hd, lst, pre, post, some?, cnt}
 use Rattle.machine.specs.Count.{cnt-le-all}
 use Rattle.machine.specs.Heap.{Heap, stack, cache, bin, sizeOf, next}
 use Rattle.machine.specs.Writes.{Write, apply, Ran, heapOf, writes, giving, more, _>>=_, ran}
-use Rattle.machine.specs.Primitives.{pushCache, pop, unlink, setP, setRemainder}
+use Rattle.machine.specs.Primitives.{pushCache, takeCache, unlink, setP, setRemainder}
 use Rattle.machine.specs.Grant.{roomFor?, split, sortIn, lone?, splitLone, keep, turnAt, turn, swept, afterTurn, sweep, step5}
 use Rattle.machine.specs.View.{up}
 use Rattle.machine.specs.declared.{Got.Got, Got.the-variants.At, Got.the-variants.Nothing, Turn.Turn}
@@ -316,7 +316,7 @@ module _ (h : Heap) (w r : List ℕ) (b : ℕ) (got : Bool) (o : Ok h w r) (k : 
     pub swept-some : some? (stack h i) ≡ true
     swept-some = ap (λ (i : ℕ). some? (stack h i)) ei ∙ k e .0
 
-    module _ (c : ℕ) (q : List ℕ) (d : Does Got (λ h. some? (stack h i) ≡ true) (pop i) w r (At c) w q) where
+    module _ (c : ℕ) (v q : List ℕ) (d : Does Got (λ h. some? (stack h i) ≡ true) (takeCache i) w r (At c) v q) where
       pub swept-small : c + 32 ≤ 262144
       swept-small =
           let H = ok-head h w r o i swept-some in
@@ -324,6 +324,6 @@ module _ (h : Heap) (w r : List ℕ) (b : ℕ) (got : Bool) (o : Ok h w r) (k : 
           let f : hd none64 (stack h i) ≡ c = cc in
           omega (arith, H .here .small, H .same)
 
-      pub swept-gave : Gave Got (swept b got h) (At c) w w q
+      pub swept-gave : Gave Got (swept b got h) (At c) w v q
       unfolding swept
-      swept-gave = gave-by (ap (λ (t : Bool). swept b t h) e ∙ ap (λ (i : ℕ). pop i h) (sym ei)) (d .does h o swept-some)
+      swept-gave = gave-by (ap (λ (t : Bool). swept b t h) e ∙ ap (λ (i : ℕ). takeCache i h) (sym ei)) (d .does h o swept-some)

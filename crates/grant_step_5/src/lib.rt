@@ -28,7 +28,7 @@ ghost use Rattle.grant_step_5.specs.Loop.{Full};
 
 // Whether c, the last of unsorted and of size z, is the only one, the last remainder, and large enough to be split for a small b.
 fn is_lone(r: &[u32], c: Chunk, z: u64, b: u64) -> bool
-    requires { ⌜ length (now r) ≡ 393 ⌝ }
+    requires { ⌜ length (now r) ≡ 395 ⌝ }
     ensures { λ t. ⌜ t ≡ loneIn (now (r .entry)) b (c .0) z ⌝ }
 {
     if LARGE <= b {
@@ -86,9 +86,9 @@ fn turn(a: &mut [u8], r: &mut [u32], b: u64) -> Turn
 }
 
 // The end: the head of b's cache list if one was cached.
-fn swept(a: &[u8], r: &mut [u32], b: u64, got: bool) -> Got
+fn swept(a: &mut [u8], r: &mut [u32], b: u64, got: bool) -> Got
     requires { ⌜ (32 ≤ b) × Has (Full b got) (arenaWords (now a)) (now r) ⌝ }
-    ensures { λ g. ⌜ Does Got (Full b got) (swept b got) (arenaWords (now (a .entry))) (now (r .entry)) g (arenaWords (now (a .entry))) (now (r .exit)) ⌝ }
+    ensures { λ g. ⌜ Does Got (Full b got) (swept b got) (arenaWords (now (a .entry))) (now (r .entry)) g (arenaWords (now (a .exit))) (now (r .exit)) ⌝ }
 {
     if got {
         let k = sizes::cache_list(b);

@@ -17,12 +17,12 @@ use Rattle.machine.specs.Lists.{hd, tl, some?, cnt}
 use Rattle.machine.specs.Count.{ind-same, cntAll-set}
 use Rattle.machine.specs.Heap.{Heap, stack, fastAt, sizeOf}
 use Rattle.machine.specs.Writes.{Ran, does, heapOf, _>>=_}
-use Rattle.machine.specs.Primitives.{push, pop, pushCache}
+use Rattle.machine.specs.Primitives.{pop, pushCache}
 use Rattle.machine.specs.Grant.{moveFast}
 use Rattle.machine.specs.declared.{Got.Got, Got.the-variants.At}
 use Rattle.sound.specs.Relation.{Shape, Loose, stackSize, Good}
 use Rattle.sound.specs.Ends.{Ends}
-use Rattle.sound.specs.Stacks.{pop-ends, push-ends}
+use Rattle.sound.specs.Stacks.{pop-ends, pushCache-ends}
 use Rattle.sound.specs.Release.{stackSize-cache, stackSize-fast}
 use Rattle.primitives.specs.Follow.{Ok, Has, Gave, Does}
 use Rattle.primitives.specs.FollowLaws.{gave-then, gave-ok}
@@ -37,7 +37,7 @@ some-cons [] c e q = absurd (let z : _≡_ {A = ℕ} 0 1 = cc in omega arith)
 some-cons (x ∷ l) c e q = ap (λ (y : ℕ). y ∷ l) q
 
 -- a push makes its list one longer
-pub pushed-length : (h : Heap) (k c : ℕ) → Shape h → k < 74 → length (stack (heapOf (push k c h)) k) ≡ suc (length (stack h k))
+pub pushed-length : (h : Heap) (k c : ℕ) → Shape h → k < 74 → length (stack (heapOf (pushCache k c h)) k) ≡ suc (length (stack h k))
 pushed-length h k c s l = ap length (getD-set-same (h .stacks) k (c ∷ stack h k) [] (omega (arith, s .stacked74)))
 
 -- ---- the machine's equations
@@ -116,14 +116,14 @@ module _ (b f : ℕ) (b16 : b % 16 ≡ 0) (b32 : 32 ≤ b) (le : b ≤ 128) (ef 
       pub push-has : Has (λ h. Loose h c × (length (stack h k) < 7)) w q
       push-has = record { heap = heapOf (pop (fastAt f) h); ok = taken-ok; holds = (loose, room) }
 
-      module _ (v p : List ℕ) (d : Does (Unit {0}) (λ h. Loose h c × (length (stack h k) < 7)) (push k c) w q tt v p) where
+      module _ (v p : List ℕ) (d : Does (Unit {0}) (λ h. Loose h c × (length (stack h k) < 7)) (pushCache k c) w q tt v p) where
         moved-gave : Gave (Unit {0}) (moved f k c h) tt w v p
         moved-gave = gave-then (pop (fastAt f) h) (λ n. pushCache k c n) (At c) tt m (d .does (heapOf (pop (fastAt f) h)) taken-ok (loose, room))
 
         moved-ends : Ends (moved f k c h) w Good
         moved-ends =
-            let e = push-ends (heapOf (pop (fastAt f) h)) w k c (omega (arith, k64)) (popped .now) (popped .mem) loose
-            (size-b ∙ stackSize-cache b b16 b32 (omega arith) ∙ ap stackSize (sym ek)) (λ z. absurd (omega (arith, k64))) (λ z. room) in
+            let e = pushCache-ends (heapOf (pop (fastAt f) h)) w k c k64 (popped .now) (popped .mem) loose
+            (size-b ∙ stackSize-cache b b16 b32 (omega arith) ∙ ap stackSize (sym ek)) room in
             record { mem = e .mem; now = e .now }
 
         moved-is : moveHeads b h ≡ (moved f k c h >>= moveHeads b)
@@ -167,7 +167,7 @@ module _ (b f : ℕ) (b16 : b % 16 ≡ 0) (b32 : 32 ≤ b) (le : b ≤ 128) (ef 
             let R = W .reach (H .heap) (H .ok) (H .holds) in
             push-has (R .heap) w r (R .ok) (R .good) (some (R .heap) (R .ok)) c q (d .does (R .heap) (R .ok) (some (R .heap) (R .ok))) k ek lt
 
-        module _ (v p : List ℕ) (e : Does (Unit {0}) (λ h. Loose h c × (length (stack h k) < 7)) (push k c) w q tt v p) where
+        module _ (v p : List ℕ) (e : Does (Unit {0}) (λ h. Loose h c × (length (stack h k) < 7)) (pushCache k c) w q tt v p) where
           pub heads-again : Way (Unit {0}) (moveHeads b) (moveHeads b) w₀ r₀ v p
           heads-again = record {
             reach = λ h o g.

@@ -20,7 +20,7 @@ use Rattle.machine.specs.Lists.{lst, pre, post, some?, cnt}
 use Rattle.machine.specs.Count.{ind-same, cnt-le-all}
 use Rattle.machine.specs.Heap.{Tile, Heap, stack, bin, endFrom, startsFrom, starts, sizeOf, next}
 use Rattle.machine.specs.Writes.{Ran, ran, does, apply, heapOf, writes, _>>=_, size, put}
-use Rattle.machine.specs.Primitives.{push, pushCache, unlink, setP}
+use Rattle.machine.specs.Primitives.{pushCache, unlink, setP}
 use Rattle.machine.specs.View.{sizeAt}
 use Rattle.machine.specs.Grant.{takeLast, moveLasts}
 use Rattle.sound.specs.Relation.{Shape, Loose, stackSize, Good}
@@ -30,7 +30,7 @@ use Rattle.sound.specs.Lists.{cut, in-range, unlink-shape, unlink-mem}
 use Rattle.sound.specs.Edits.{size-32, size-16, size-place}
 use Rattle.sound.specs.Carve.{take-out}
 use Rattle.sound.specs.Ends.{Ends}
-use Rattle.sound.specs.Stacks.{push-ends}
+use Rattle.sound.specs.Stacks.{pushCache-ends}
 use Rattle.sound.specs.Moves.{nil, one, any}
 use Rattle.sound.specs.Leaves.{Leaves, Still}
 use Rattle.sound.specs.JoinLeaves.{Every}
@@ -186,7 +186,7 @@ module _ (b : ℕ) (b16 : b % 16 ≡ 0) (b32 : 32 ≤ b) (b1024 : b < 1024) wher
         push-has : Has (λ h. Loose h c × (length (stack h k) < 7)) v q
         push-has = record { heap = heapOf (takeLast (binOf b) c h); ok = took-ok; holds = (loose, room) }
 
-        module _ (u p : List ℕ) (d : Does (Unit {0}) (λ h. Loose h c × (length (stack h k) < 7)) (push k c) v q tt u p) where
+        module _ (u p : List ℕ) (d : Does (Unit {0}) (λ h. Loose h c × (length (stack h k) < 7)) (pushCache k c) v q tt u p) where
           moved-gave : Gave (Unit {0}) (moved k c h) tt w u p
           moved-gave = gave-then (takeLast (binOf b) c h) (λ n. pushCache k c n) tt tt m (d .does (heapOf (takeLast (binOf b) c h)) took-ok (loose, room))
 
@@ -194,8 +194,8 @@ module _ (b : ℕ) (b16 : b % 16 ≡ 0) (b32 : 32 ≤ b) (b1024 : b < 1024) wher
           moved-ends =
               let s : Ran (Unit {0}) = takeLast (binOf b) c h in
               ends-next s (λ n. pushCache k c n) w Good
-              (push-ends (heapOf s) (apply (writes s) w) k c (omega (arith, k64)) (took .now .0) (took .mem) loose
-              (took .now .1 ∙ last-size h c L ∙ stackSize-cache b b16 b32 (omega arith) ∙ ap stackSize (sym ek)) (λ z. absurd (omega (arith, k64))) (λ z. room))
+              (pushCache-ends (heapOf s) (apply (writes s) w) k c k64 (took .now .0) (took .mem) loose
+              (took .now .1 ∙ last-size h c L ∙ stackSize-cache b b16 b32 (omega arith) ∙ ap stackSize (sym ek)) room)
 
           moved-is : some? (bin h (binOf b)) ≡ true → c ≡ lst none64 (bin h (binOf b)) → moveRest b h ≡ (moved k c h >>= moveRest b)
           moved-is so ec =
@@ -244,7 +244,7 @@ module _ (b : ℕ) (b16 : b % 16 ≡ 0) (b32 : 32 ≤ b) (b1024 : b < 1024) wher
             let L = found-last w r at ea ne (R .heap) (R .ok) (R .good) in
             push-has (R .heap) w r (R .ok) (getD r at 0) L v q (d .does (R .heap) (R .ok) L) k ek lt
 
-        module _ (u p : List ℕ) (e : Does (Unit {0}) (λ h. Loose h (getD r at 0) × (length (stack h k) < 7)) (push k (getD r at 0)) v q tt u p) where
+        module _ (u p : List ℕ) (e : Does (Unit {0}) (λ h. Loose h (getD r at 0) × (length (stack h k) < 7)) (pushCache k (getD r at 0)) v q tt u p) where
           pub rest-again : Way (Unit {0}) (moveRest b) (moveRest b) w₀ r₀ u p
           rest-again = record {
             reach = λ h o g.

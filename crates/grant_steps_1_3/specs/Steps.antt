@@ -15,7 +15,7 @@ use Rattle.sizes.specs.BinLaws.{binOf-bounds}
 use Rattle.machine.specs.Lists.{hd, lst, some?, cnt}
 use Rattle.machine.specs.Heap.{Heap, stack, fastAt, bin}
 use Rattle.machine.specs.Writes.{giving, nothing, heapOf, _>>=_}
-use Rattle.machine.specs.Primitives.{pop}
+use Rattle.machine.specs.Primitives.{pop, takeCache}
 use Rattle.machine.specs.Grant.{step1, step2, takeLast, step3}
 use Rattle.machine.specs.declared.{Got.Got, Got.the-variants.At, Got.the-variants.Nothing}
 use Rattle.sound.specs.Relation.{Good}
@@ -41,7 +41,7 @@ module _ (b : ℕ) (h : Heap) where
       let u : some? (stack h (cacheOf b)) ≡ false = ap some? e in
       rw (t, u, step1)
 
-  one-some : b ≤ mostCached → some? (stack h (cacheOf b)) ≡ true → step1 b h ≡ pop (cacheOf b) h
+  one-some : b ≤ mostCached → some? (stack h (cacheOf b)) ≡ true → step1 b h ≡ takeCache (cacheOf b) h
   unfolding step1
   one-some l u = let t : leb b mostCached ≡ true = le-leb b mostCached l in rw (t, u, step1)
 
@@ -92,12 +92,12 @@ module _ (b k : ℕ) (le : b ≤ mostCached) (ek : k ≡ cacheOf b) (w r : List 
     pub has1 : Has Good w r → Has (λ h. some? (stack h k) ≡ true) w r
     has1 H = record { heap = H .heap; ok = H .ok; holds = cache-some (H .heap) w r (H .ok) k k64 ne }
 
-    module _ (c : ℕ) (q : List ℕ) (d : Does Got (λ h. some? (stack h k) ≡ true) (pop k) w r (At c) w q) where
-      pub took1 : Does Got Good (step1 b) w r (At c) w q
+    module _ (c : ℕ) (v q : List ℕ) (d : Does Got (λ h. some? (stack h k) ≡ true) (takeCache k) w r (At c) v q) where
+      pub took1 : Does Got Good (step1 b) w r (At c) v q
       took1 = record {
         does = λ h o g.
             let so = cache-some h w r o k k64 ne in
-            gave-by (one-some b h le (ap (λ (k : ℕ). some? (stack h k)) (sym ek) ∙ so) ∙ ap (λ (k : ℕ). pop k h) (sym ek)) (d .does h o so);
+            gave-by (one-some b h le (ap (λ (k : ℕ). some? (stack h k)) (sym ek) ∙ so) ∙ ap (λ (k : ℕ). takeCache k h) (sym ek)) (d .does h o so);
       }
 
       pub small1 : Has Good w r → c + 32 ≤ 262144

@@ -70,10 +70,10 @@ fn fault_numbers(x: Audited) -> HeapFault
 }
 
 #[no_mangle]
-pub extern "C" fn heap_open(arena: &mut [u8], control: &mut [u8]) -> HeapAnswer
-    ensures { λ x. ⌜ back (now (arena .exit)) (now (control .exit)) x ≡ numbered (openCall (now (arena .entry)) (now (control .entry))) ⌝ }
+pub extern "C" fn heap_open(arena: &mut [u8], control: &mut [u8], key: u64) -> HeapAnswer
+    ensures { λ x. ⌜ back (now (arena .exit)) (now (control .exit)) x ≡ numbered (openCall (now (arena .entry)) (now (control .entry)) key) ⌝ }
 {
-    let x = calls::open(arena, control);
+    let x = calls::open(arena, control, key);
     answer_numbers(x)
 }
 

@@ -7,8 +7,8 @@ use libc::STDIN_FILENO;
 use libc::STDOUT_FILENO;
 
 // The longest image, and one byte more: a file that fills it is too long.
-fn file_buffer() -> [u8; 263726] {
-    [0u8; 263726]
+fn file_buffer() -> [u8; 263734] {
+    [0u8; 263734]
 }
 
 // Room for the longest text or picture.
@@ -19,7 +19,7 @@ fn out_buffer() -> [u8; 1671168] {
 // Shows the file; arena, record and output buffer are lent.
 fn show(file: &[u8], arena: &mut [u8], control: &mut [u8], out: &mut [u8], svg: bool) -> usize
     requires { ⌜ length (now arena) ≡ 262144 ⌝ }
-    requires { ⌜ length (now control) ≡ 1572 ⌝ }
+    requires { ⌜ length (now control) ≡ 1580 ⌝ }
     requires { ⌜ length (now out) ≡ 1671168 ⌝ }
     ensures { λ n. ⌜ n ≤ 1671168 ⌝ }
 {
@@ -41,7 +41,7 @@ fn main() {
     let mut file = file_buffer();
     let n = io::read_full(STDIN_FILENO, &mut file);
     let mut arena = [0u8; 262144];
-    let mut control = [0u8; 1572];
+    let mut control = [0u8; 1580];
     let mut out = out_buffer();
     let svg = 1 < os::arg_count();
     let m = show(&file[..n], &mut arena, &mut control, &mut out, svg);

@@ -12,7 +12,7 @@ use Rattle.machine.specs.Release.{absorb, joinNext, putDown, join, releasePast,
 use Rattle.machine.specs.Grant.{step1, moveFast, step2, takeLast, moveLasts, step3, step4, split, sortIn, splitLone, keep, turnAt, turn, swept, sweep, step5, carve, step8, step6, step7, step9, pass, again, from4, seek, grant}
 use Rattle.machine.specs.Resize.{nextP, finish, resize}
 use Rattle.machine.specs.View.{listAt, tilesOf, stacksOf, binsOf}
-use Rattle.machine.specs.Audit.{tileFault, goodFrom, listFault, flagFault, auditOf}
+use Rattle.machine.specs.Audit.{tileFault, goodFrom, listFault, flagFault, auditBy}
 use Rattle.machine.specs.Calls.{auditCall, closedRecord, openCall, grantCall, releaseCall, resizeCall, jobCall}
 use Rattle.machine.proofs.Script.{same?}
 use Rattle.script.specs.Grammar.{digitsFrom, numberOf, beforeBlank, behindBlank, lineOf}
@@ -50,8 +50,8 @@ output =
     83 ∷ 32 ∷ 48 ∷ 32 ∷ 48 ∷ 32 ∷ 48 ∷ 32 ∷ 48 ∷ 10 ∷
     71 ∷ 32 ∷ 48 ∷ 32 ∷ 49 ∷ 54 ∷ 32 ∷ 50 ∷ 48 ∷ 48 ∷ 32 ∷ 50 ∷ 48 ∷ 56 ∷ 10 ∷ []
 
-worked-example : same? (printed (linesFrom [] script) (run (replicate 256 0) (replicate 1572 0) [] 0 0 false)) output ≡ true
-unfolding script output linesFrom printed lineStep placedStep called lineOf numberOf digitsFrom decimal field callText questionText number numberFrom words digits bytes arenaWords need usable cacheOf fastOf binOf largeBin recordOf absorb joinNext putDown join releasePast release drain drains consolidate emptying joining step1 moveFast step2 takeLast moveLasts step3 step4 split sortIn splitLone keep turnAt turn swept sweep step5 carve step8 step6 step7 step9 pass again from4 seek grant listAt tilesOf stacksOf binsOf tileFault goodFrom listFault flagFault auditOf auditCall closedRecord openCall grantCall releaseCall jobCall
+worked-example : same? (printed (linesFrom [] script) (run (replicate 256 0) (replicate 1580 0) [] 0 0 false)) output ≡ true
+unfolding script output linesFrom printed lineStep placedStep called lineOf numberOf digitsFrom decimal field callText questionText number numberFrom words digits bytes arenaWords need usable cacheOf fastOf binOf largeBin recordOf absorb joinNext putDown join releasePast release drain drains consolidate emptying joining step1 moveFast step2 takeLast moveLasts step3 step4 split sortIn splitLone keep turnAt turn swept sweep step5 carve step8 step6 step7 step9 pass again from4 seek grant listAt tilesOf stacksOf binsOf tileFault goodFrom listFault flagFault auditBy auditCall closedRecord openCall grantCall releaseCall jobCall
 worked-example = refl
 
 -- A 256, Z 0 24 (null: a grant), G 24, Z 16 40 (moved), Z 80 56 (in place, from the top), Z 80 0 (a release), Z 80 24 (no live block), Z 48 262145, Z 48 262144
@@ -79,6 +79,6 @@ resizes-printed =
     90 ∷ 32 ∷ 50 ∷ 32 ∷ 48 ∷ 32 ∷ 48 ∷ 32 ∷ 49 ∷ 50 ∷ 56 ∷ 10 ∷
     90 ∷ 32 ∷ 53 ∷ 32 ∷ 48 ∷ 32 ∷ 48 ∷ 32 ∷ 49 ∷ 50 ∷ 56 ∷ 10 ∷ []
 
-worked-resizes : same? (printed (linesFrom [] resizes) (run (replicate 256 0) (replicate 1572 0) [] 0 0 false)) resizes-printed ≡ true
-unfolding resizes resizes-printed linesFrom printed lineStep placedStep called lineOf numberOf digitsFrom beforeBlank behindBlank decimal field callText questionText number numberFrom words digits bytes arenaWords need usable cacheOf fastOf binOf largeBin recordOf absorb joinNext putDown join releasePast release drain drains consolidate emptying joining step1 moveFast step2 takeLast moveLasts step3 step4 split sortIn splitLone keep turnAt turn swept sweep step5 carve step8 step6 step7 step9 pass again from4 seek grant nextP finish resize listAt tilesOf stacksOf binsOf tileFault goodFrom listFault flagFault auditOf auditCall closedRecord openCall grantCall releaseCall resizeCall jobCall
+worked-resizes : same? (printed (linesFrom [] resizes) (run (replicate 256 0) (replicate 1580 0) [] 0 0 false)) resizes-printed ≡ true
+unfolding resizes resizes-printed linesFrom printed lineStep placedStep called lineOf numberOf digitsFrom beforeBlank behindBlank decimal field callText questionText number numberFrom words digits bytes arenaWords need usable cacheOf fastOf binOf largeBin recordOf absorb joinNext putDown join releasePast release drain drains consolidate emptying joining step1 moveFast step2 takeLast moveLasts step3 step4 split sortIn splitLone keep turnAt turn swept sweep step5 carve step8 step6 step7 step9 pass again from4 seek grant nextP finish resize listAt tilesOf stacksOf binsOf tileFault goodFrom listFault flagFault auditBy auditCall closedRecord openCall grantCall releaseCall resizeCall jobCall
 worked-resizes = refl

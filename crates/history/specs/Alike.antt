@@ -28,19 +28,30 @@ use Rattle.sound.specs.Tiles.{lt-or-le}
 use Rattle.sound.specs.Ends.{Ends}
 use Rattle.sound.specs.Release.{both-true}
 use Rattle.sound.specs.Live.{live-loose}
-use Rattle.history.specs.Histories.{Event, Grant, Release, Resize, Emptying, Joining, Store, Block, holds?, drop, State, state, heapAt, granted, released, resized, kept, next, run, answerOf, answerTo, answers}
+use Rattle.history.specs.Histories.{Event, Grant, Release, Resize, Emptying, Joining, Store, Block, holds?, drop, State, state, heapAt, blocksIn, granted, released, resized, kept, next, run, answerOf, answerTo, answers}
 use Rattle.calls_consequences.specs.Written.{written-read}
 use Rattle.calls_consequences.specs.Remainder.{Fine, grant-fine, release-fine, resize-fine}
 use Rattle.calls_consequences.specs.Consequences.{Job, emptying-job, joining-job}
 use Rattle.history.specs.Ready.{Ready, ReadyAt, ready-fine}
 use Rattle.history.specs.Called.{grant-large, grant-called, release-called, job-called, Way, Null, Zero, Large, Dead, Through, way, resizeBy, resize-called}
 use Rattle.history.specs.Stores.{store-view}
+use Rattle.history.specs.Like.{Given, Like}
+use Rattle.history.specs.Keyed.{rekeyed, withKey, Keyed, grant-keyed, release-keyed, resize-keyed, emptying-keyed, joining-keyed}
 use Rattle.history.specs.Runs.{resized-null, resized-zero, next-ready}
 
 -- what a grant's steps answer, and a resize's
 abbrev pub said : Ran Got → Answer
 said (ran h ws (At c)) = Granted (c + 16) (usable (sizeOf h c))
 said (ran h ws Nothing) = Refused N.NoRoom
+
+pub said-like : (w : Given → Given) (x x′ : Ran Got) → Like w x x′ → said x ≡ said x′
+said-like w (ran h ws (At c)) (ran h′ ws′ (At c′)) l =
+    let z : c′ ≡ c = cc in
+    let e : sizeOf h′ c′ ≡ sizeOf h c = ap (λ (g : Heap). sizeOf g c′) (l .heap) ∙ ap (sizeOf h) z in
+    cc
+said-like w (ran h ws Nothing) (ran h′ ws′ Nothing) l = refl
+said-like w (ran h ws (At c)) (ran h′ ws′ Nothing) l = absurd (let z : _≡_ {A = ℕ} 0 1 = cc in omega arith)
+said-like w (ran h ws Nothing) (ran h′ ws′ (At c)) l = absurd (let z : _≡_ {A = ℕ} 0 1 = cc in omega arith)
 
 -- of sound heaps that Q holds of, the live chunks are the same, a grant and a resize answer the same, and Q holds after every step, given what M asks of the
 -- event and the two heaps before it. What M asks of a resize is what it asks of the grant or the release that it is, where the mem is null or the length 0
@@ -61,6 +72,15 @@ pub record Steady (Q : Heap → Heap → Type 0) (M : Event → Heap → Heap �
 
 abbrev pub Alike : (Heap → Heap → Type 0) → State → State → Type 0
 Alike Q (state a r bs) (state a′ r′ bs′) = Q (C.heapIn a r) (C.heapIn a′ r′) × (bs ≡ bs′)
+
+pub alike-of : (Q : Heap → Heap → Type 0) (s t : State) → Q (heapAt s) (heapAt t) → blocksIn s ≡ blocksIn t → Alike Q s t
+alike-of Q (state a r bs) (state a′ r′ bs′) q e = (q, e)
+
+pub alike-heaps : (Q : Heap → Heap → Type 0) (s t : State) → Alike Q s t → Q (heapAt s) (heapAt t)
+alike-heaps Q (state a r bs) (state a′ r′ bs′) k = k .0
+
+pub alike-blocks : (Q : Heap → Heap → Type 0) (s t : State) → Alike Q s t → blocksIn s ≡ blocksIn t
+alike-blocks Q (state a r bs) (state a′ r′ bs′) k = k .1
 
 -- answered the same, and alike after it
 abbrev pub Same : (Heap → Heap → Type 0) → Event → State → State → Type 0
@@ -255,26 +275,31 @@ module _ (Q : Heap → Heap → Type 0) (M : Event → Heap → Heap → Type 0)
       let f : answerTo e s ≡ answerTo e t = o .0 in
       cc
 
--- ---- equal heaps, whatever the events
-abbrev pub Equal : Heap → Heap → Type 0
-Equal h g = h ≡ g
+-- ---- heaps equal but for the key, the second's key q, whatever the events
+abbrev pub ButKey : ℕ → Heap → Heap → Type 0
+ButKey q h g = g ≡ withKey q h
 
 abbrev pub Any : Event → Heap → Heap → Type 0
 Any e h g = Unit {0}
 
-pub equal-steady : Steady Equal Any
-equal-steady = record {
-  live = λ h g G G′ e c. ap (λ (k : Heap). live? k c) e;
-  answer = λ h g G G′ e n l i. ap (λ (k : Heap). said (grant (need n) k)) e;
-  grants = λ h g G G′ e n l i. ap (λ (k : Heap). heapOf (grant (need n) k)) e;
-  releases = λ h g G G′ e m i l. ap (λ (k : Heap). heapOf (release (m - 16) k)) e;
-  resized = λ h g G G′ e m n i l. ap (λ (k : Heap). said (resize (m - 16) (need n) k)) e;
-  resizes = λ h g G G′ e m n i l. ap (λ (k : Heap). heapOf (resize (m - 16) (need n) k)) e;
-  nulls = λ h g n i. tt;
-  zeros = λ h g m i. tt;
-  empties = λ h g G G′ e i. ap (λ (k : Heap). heapOf (emptying k)) e;
-  joins = λ h g G G′ e i. ap (λ (k : Heap). heapOf (joining k)) e;
-}
+module _ (q : ℕ) where
+  of-key : {A : Type 0} (f : Heap → Ran A) → ((h : Heap) → Keyed q (f h) (f (withKey q h))) → (h g : Heap) → ButKey q h g → Keyed q (f h) (f g)
+  of-key f k h g e = subst (λ (x : Heap). Keyed q (f h) (f x)) (sym e) (k h)
+
+  pub butkey-steady : Steady (ButKey q) Any
+  butkey-steady = record {
+    live = λ h g G G′ e c. ap (λ (k : Heap). live? k c) (sym e);
+    answer = λ h g G G′ e n l i. said-like (rekeyed q) (grant (need n) h) (grant (need n) g) (of-key (grant (need n)) (grant-keyed q (need n)) h g e);
+    grants = λ h g G G′ e n l i. of-key (grant (need n)) (grant-keyed q (need n)) h g e .heap;
+    releases = λ h g G G′ e m i l. of-key (release (m - 16)) (release-keyed q (m - 16)) h g e .heap;
+    resized = λ h g G G′ e m n i l.
+        said-like (rekeyed q) (resize (m - 16) (need n) h) (resize (m - 16) (need n) g) (of-key (resize (m - 16) (need n)) (resize-keyed q (m - 16) (need n)) h g e);
+    resizes = λ h g G G′ e m n i l. of-key (resize (m - 16) (need n)) (resize-keyed q (m - 16) (need n)) h g e .heap;
+    nulls = λ h g n i. tt;
+    zeros = λ h g m i. tt;
+    empties = λ h g G G′ e i. of-key emptying (emptying-keyed q) h g e .heap;
+    joins = λ h g G G′ e i. of-key joining (joining-keyed q) h g e .heap;
+  }
 
 pub any-always : (es : List Event) (s t : State) → Always Any es s t
 any-always [] s t = tt

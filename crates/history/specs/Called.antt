@@ -28,9 +28,9 @@ use Rattle.audit.specs.Exact.{audit-complete}
 use Rattle.calls.specs.Ways.{resize-null, resize-zero, resize-request, resize-dead, resize-live}
 use Rattle.calls_consequences.specs.Results.{Lent}
 
-pub lent-shape : (a r : List ℕ) → Lent a r → (eqb (length r) 1572 ≡ true) × (arenaAllowed? (length a) ≡ true)
+pub lent-shape : (a r : List ℕ) → Lent a r → (eqb (length r) 1580 ≡ true) × (arenaAllowed? (length a) ≡ true)
 lent-shape a r L = (
-  eq-eqb (length r) 1572 (L .long),
+  eq-eqb (length r) 1580 (L .long),
   ap (λ (t : Bool). both t (both (leb 32 (length a)) (leb (length a) 262144))) (eq-eqb (length a % 16) 0 (L .even))
       ∙ ap (λ (t : Bool). both t (leb (length a) 262144)) (le-leb 32 (length a) (L .least)) ∙ le-leb (length a) 262144 (L .most),
 )
@@ -41,11 +41,11 @@ shape-both a r L = let s = lent-shape a r L in ap (λ (t : Bool). both t (arenaA
 if : (t : Bool) (x y : After) → After
 if t x y = elim t [ true ↦ x | false ↦ y ]
 
-pub open-lent : (a r : List ℕ) → Lent a r → openCall a r ≡ left a (opened (length a)) (size 0 (length a) 1 ∷ []) Done
+pub open-lent : (a r : List ℕ) (q : ℕ) → Lent a r → openCall a r q ≡ left a (opened (length a) q) (size 0 (length a) 1 ∷ []) Done
 unfolding openCall if
-open-lent a r L =
+open-lent a r q L =
     let s = lent-shape a r L in
-    let x : After = left a (opened (length a)) (size 0 (length a) 1 ∷ []) Done in
+    let x : After = left a (opened (length a) q) (size 0 (length a) 1 ∷ []) Done in
     let y : After = after a (bytes 4 closedRecord) (Refused R.Shape) in
     ap (λ (t : Bool). if t (if (arenaAllowed? (length a)) x y) (refused a r R.Shape)) (s .0) ∙ ap (λ (t : Bool). if t x y) (s .1)
 

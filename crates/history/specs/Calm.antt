@@ -4,7 +4,7 @@ use mathlib.Core.Path.{_≡_, refl, sym, ap, _∙_, subst}
 use mathlib.Core.List.{List, [], _∷_, _++_}
 use mathlib.Core.Bool.{Bool, true, false}
 use mathlib.Core.Logic.{⊎-elim}
-use Prim.Native.Nat.{ℕ, suc, _+_, _-_, _%_, _<_}
+use Prim.Native.Nat.{ℕ, suc, _+_, _-_, _%_, _^_, _<_}
 use native.Mathlib.Omega.{arith}
 use lib.ListN.{getD, set, List·getD-eq-default}
 use Rattle.sizes.specs.Limits.{none32}
@@ -114,15 +114,16 @@ run-joined : (es fs : List Event) (s : State) → run (thenJoined es fs) s ≡ n
 unfolding run
 run-joined es fs s = run-append es (Emptying ∷ (fs ++ Joining ∷ [])) s ∙ run-append fs (Joining ∷ []) (next Emptying (run es s))
 
-pub run-calm : (a r : List ℕ) → Lent a r → (es fs : List Event) → Quiet fs → CalmAt (run (thenJoined es fs) (begin a r))
-run-calm a r L es fs q =
-    let R = run-ready es (begin a r) (begin-ready a r L) in
-    let u : State = next Emptying (run es (begin a r)) in
-    let R′ : ReadyAt u = next-ready Emptying (run es (begin a r)) R in
-    subst CalmAt (sym (run-joined es fs (begin a r)))
-    (joining-calm (run fs u) (run-ready fs u R′) (quiet-keeps fs q u R′ (emptying-empties (run es (begin a r)) R)))
+module _ (a r : List ℕ) (q : ℕ) (L : Lent a r) (k : q < 2 ^ 64) (es fs : List Event) (Q : Quiet fs) where
+  pub run-calm : CalmAt (run (thenJoined es fs) (begin a r q))
+  run-calm =
+      let s : State = run es (begin a r q) in
+      let R = run-ready es (begin a r q) (begin-ready a r q L k) in
+      let u : State = next Emptying s in
+      let R′ : ReadyAt u = next-ready Emptying s R in
+      subst CalmAt (sym (run-joined es fs (begin a r q))) (joining-calm (run fs u) (run-ready fs u R′) (quiet-keeps fs Q u R′ (emptying-empties s R)))
 
-pub run-mended : (a r : List ℕ) → Lent a r → (es fs : List Event) → Quiet fs → MendedAt (run (thenJoined es fs) (begin a r))
-run-mended a r L es fs q =
-    let s : State = run (thenJoined es fs) (begin a r) in
-    calm-mended s (run-ready (thenJoined es fs) (begin a r) (begin-ready a r L)) (run-calm a r L es fs q)
+  pub run-mended : MendedAt (run (thenJoined es fs) (begin a r q))
+  run-mended =
+      let s : State = run (thenJoined es fs) (begin a r q) in
+      calm-mended s (run-ready (thenJoined es fs) (begin a r q) (begin-ready a r q L k)) run-calm

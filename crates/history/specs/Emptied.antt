@@ -1,25 +1,23 @@
--- Demand 3, second half: where no block is held after an emptying and its joining, the heap that is read is the opened one, so record and all later answers are a new arena's,
--- whatever bytes the two arenas hold. Assumes nothing.
+-- Demand 3, second half: where no block is held after an emptying and its joining, the heap that is read is the opened one with the key of its own open, so all later
+-- answers are a new arena's, and so is the record but for the key, whatever bytes the two arenas hold and whatever the new key is. Assumes nothing.
 use mathlib.Core.Path.{_≡_, refl, sym, ap, _∙_, subst}
 use mathlib.Core.List.{List, [], _∷_, _++_}
 use mathlib.Core.Logic.{⊎-elim}
-use Prim.Native.Nat.{ℕ, zero, suc}
+use Prim.Native.Nat.{ℕ, zero, suc, _^_, _<_}
 use native.Mathlib.Omega.{arith}
 use lib.ListN.{length, getD, replicate}
-use Rattle.le.specs.Number.{bytes}
-use Rattle.le.specs.WordsLaws.{bytes-words}
 use Rattle.le.specs.Arena.{arenaWords}
 use Rattle.le.specs.ArenaLaws.{length-arenaWords}
-use Rattle.sizes.specs.Limits.{none32, recordWords}
+use Rattle.sizes.specs.Limits.{none32}
 use Rattle.machine.specs.Lists.{cnt}
 use Rattle.machine.specs.Count.{cnt-here, cnt-le-all}
-use Rattle.machine.specs.Heap.{Tile, tile, Heap, bin, binned, endFrom, startsFrom, topSize, opened, recordOf}
+use Rattle.machine.specs.Heap.{Tile, tile, Heap, bin, binned, endFrom, startsFrom, topSize, opened}
 use Rattle.machine.specs.Writes.{size, apply}
 use Rattle.machine.specs.Calls as C
 use Rattle.sound.specs.Relation.{all, flags}
 use Rattle.sound.specs.Edits.{snoc-tiles}
 use Rattle.sound.specs.Opened.{opened-ends}
-use Rattle.history.specs.Histories.{Event, Block, State, state, heapAt, arenaIn, recordIn, blocksIn, kept, run, answers, begin}
+use Rattle.history.specs.Histories.{Event, Block, State, state, heapAt, arenaIn, blocksIn, kept, run, begin}
 use Rattle.calls_consequences.specs.Results.{Lent}
 use Rattle.calls_consequences.specs.Written.{written-read}
 use Rattle.history.specs.Demand3.{Quiet}
@@ -29,7 +27,11 @@ use Rattle.history.specs.Runs.{begin-ready, run-ready}
 use Rattle.history.specs.Lengths.{run-length, begin-length}
 use Rattle.history.specs.Mending.{last-of, adjacent, start-at}
 use Rattle.history.specs.Calm.{Calm, CalmAt, no-stack, thenJoined, run-calm}
-use Rattle.history.specs.Alike.{Alike, run-alike, answers-alike, Equal, Any, equal-steady, any-always}
+use Rattle.history.specs.Agrees.{butKey, Agrees}
+use Rattle.history.specs.Keyed.{withKey}
+use Rattle.history.specs.Alike.{Alike, alike-of, ButKey, Any, butkey-steady, any-always}
+use Rattle.history.specs.RecordBytes.{records-key}
+use Rattle.history.specs.AgreesHold.{alike-agrees}
 
 -- ---- an emptied heap is the opened one
 nothing-in : (l : List ℕ) → ((x : ℕ) → cnt x l ≡ 0) → l ≡ []
@@ -45,18 +47,18 @@ all-empty (suc n) (l ∷ ls) e f =
     let q : ls ≡ replicate n [] = all-empty n ls (omega (arith, e)) (λ k. f (suc k)) in
     cc
 
-heap-of : ℕ → List Tile → List (List ℕ) → List (List ℕ) → ℕ → Heap
-heap-of n ts ss bs m = record { len = n; tiles = ts; stacks = ss; bins = bs; remainder = m }
+heap-of : ℕ → List Tile → List (List ℕ) → List (List ℕ) → ℕ → ℕ → Heap
+heap-of n ts ss bs m q = record { len = n; tiles = ts; stacks = ss; bins = bs; remainder = m; key = q }
 
 heap-same : (h : Heap) (n m : ℕ) (ts : List Tile) (ss bs : List (List ℕ)) → h .len ≡ n → h .tiles ≡ ts → h .stacks ≡ ss → h .bins ≡ bs → h .remainder ≡ m
-    → h ≡ record { len = n; tiles = ts; stacks = ss; bins = bs; remainder = m }
+    → h ≡ record { len = n; tiles = ts; stacks = ss; bins = bs; remainder = m; key = h .key }
 unfolding heap-of
 heap-same h n m ts ss bs a b c d e =
-    ap (λ (x : ℕ). heap-of x (h .tiles) (h .stacks) (h .bins) (h .remainder)) a
-    ∙ ap (λ (x : List Tile). heap-of n x (h .stacks) (h .bins) (h .remainder)) b
-    ∙ ap (λ (x : List (List ℕ)). heap-of n ts x (h .bins) (h .remainder)) c
-    ∙ ap (λ (x : List (List ℕ)). heap-of n ts ss x (h .remainder)) d
-    ∙ ap (λ (x : ℕ). heap-of n ts ss bs x) e
+    ap (λ (x : ℕ). heap-of x (h .tiles) (h .stacks) (h .bins) (h .remainder) (h .key)) a
+    ∙ ap (λ (x : List Tile). heap-of n x (h .stacks) (h .bins) (h .remainder) (h .key)) b
+    ∙ ap (λ (x : List (List ℕ)). heap-of n ts x (h .bins) (h .remainder) (h .key)) c
+    ∙ ap (λ (x : List (List ℕ)). heap-of n ts ss x (h .remainder) (h .key)) d
+    ∙ ap (λ (x : ℕ). heap-of n ts ss bs x (h .key)) e
 
 module _ (a r : List ℕ) (R : Ready a r []) (c : Calm (C.heapIn a r)) where
   abbrev h : Heap
@@ -77,59 +79,45 @@ module _ (a r : List ℕ) (R : Ready a r []) (c : Calm (C.heapIn a r)) where
   no-bin : (j : ℕ) → bin h j ≡ []
   no-bin j = nothing-in (bin h j) (λ x. omega (arith, cnt-le-all x (h .bins) j, R .sound .good .shape .own x, ap (λ (ts : List Tile). cnt x (startsFrom 0 ts)) no-tile))
 
-  pub emptied-view : h ≡ opened (length a)
+  pub emptied-view : h ≡ opened (length a) (h .key)
   emptied-view =
       let s = R .sound .good .shape in
       heap-same h (length a) none32 [] (replicate 74 []) (replicate 127 []) (omega (arith, length-arenaWords a, R .lent .even)) no-tile
       (all-empty 74 (h .stacks) (s .stacked74) (c .empty)) (all-empty 127 (h .bins) (s .binned127) no-bin) (c .none)
 
-pub calm-opened : (s : State) → ReadyAt s → CalmAt s → blocksIn s ≡ [] → heapAt s ≡ opened (length (arenaIn s))
+pub calm-opened : (s : State) → ReadyAt s → CalmAt s → blocksIn s ≡ [] → heapAt s ≡ opened (length (arenaIn s)) (heapAt s .key)
 calm-opened (state a r bs) R c e = emptied-view a r (subst (λ (l : List Block). Ready a r l) e R) c
 
-pub begin-opened : (a r : List ℕ) → Lent a r → heapAt (begin a r) ≡ opened (length a)
+pub begin-opened : (a r : List ℕ) (q : ℕ) → Lent a r → q < 2 ^ 64 → heapAt (begin a r q) ≡ opened (length a) q
 unfolding begin
-begin-opened a r L =
+begin-opened a r q L k =
     let n : ℕ = length a in
-    let o = opened-ends n (arenaWords a) (L .even) (L .least) (L .most) (omega (arith, length-arenaWords a, L .even)) in
-    ap (λ (x : C.After). heapAt (kept [] x)) (open-lent a r L) ∙ written-read (opened n) (o .0) (apply (size 0 n 1 ∷ []) (arenaWords a)) (o .1) (omega arith)
+    let o = opened-ends n q (arenaWords a) k (L .even) (L .least) (L .most) (omega (arith, length-arenaWords a, L .even)) in
+    ap (λ (x : C.After). heapAt (kept [] x)) (open-lent a r q L) ∙ written-read (opened n q) (o .0) (apply (size 0 n 1 ∷ []) (arenaWords a)) (o .1) (omega arith)
 
-pub begin-blocks : (a r : List ℕ) → Lent a r → blocksIn (begin a r) ≡ []
+pub begin-blocks : (a r : List ℕ) (q : ℕ) → Lent a r → blocksIn (begin a r q) ≡ []
 unfolding begin
-begin-blocks a r L = ap (λ (x : C.After). blocksIn (kept [] x)) (open-lent a r L)
+begin-blocks a r q L = ap (λ (x : C.After). blocksIn (kept [] x)) (open-lent a r q L)
 
--- ---- the record's bytes are those of the heap that is read
-pub record-bytes : (s : State) → ReadyAt s → recordIn s ≡ bytes 4 (recordOf (heapAt s))
-record-bytes (state a r bs) R = sym (bytes-words 4 recordWords r (R .lent .long) (R .lent .words)) ∙ ap (bytes 4) (R .sound .rec)
-
-pub alike-heaps : (s t : State) → Alike Equal s t → heapAt s ≡ heapAt t
-alike-heaps (state a r bs) (state a′ r′ bs′) k = k .0
-
-pub alike-of : (s t : State) → heapAt s ≡ heapAt t → blocksIn s ≡ blocksIn t → Alike Equal s t
-alike-of (state a r bs) (state a′ r′ bs′) e f = (e, f)
-
--- ---- the theorem: a state that holds no block after an emptying and its joining, against any newly opened arena of that length
-module _ (a r : List ℕ) (L : Lent a r) (es fs : List Event) (q : Quiet fs) (none : blocksIn (run (thenJoined es fs) (begin a r)) ≡ [])
-    (a′ r′ : List ℕ) (L′ : Lent a′ r′) (same : length a′ ≡ length a) where
+-- ---- the theorem: a state that holds no block after an emptying and its joining, against any newly opened arena of that length, with any key
+module _ (a r : List ℕ) (q : ℕ) (L : Lent a r) (k : q < 2 ^ 64) (es fs : List Event) (Q : Quiet fs) (none : blocksIn (run (thenJoined es fs) (begin a r q)) ≡ [])
+    (a′ r′ : List ℕ) (q′ : ℕ) (L′ : Lent a′ r′) (k′ : q′ < 2 ^ 64) (same : length a′ ≡ length a) where
   abbrev s : State
-  s = run (thenJoined es fs) (begin a r)
+  s = run (thenJoined es fs) (begin a r q)
 
   abbrev t : State
-  t = begin a′ r′
+  t = begin a′ r′ q′
 
   ready : ReadyAt s
-  ready = run-ready (thenJoined es fs) (begin a r) (begin-ready a r L)
+  ready = run-ready (thenJoined es fs) (begin a r q) (begin-ready a r q L k)
 
-  emptied-alike : Alike Equal s t
+  pub emptied-alike : Alike (ButKey q′) (run (thenJoined es fs) (begin a r q)) (begin a′ r′ q′)
   emptied-alike =
-      let n : length (arenaIn s) ≡ length a′ = run-length (thenJoined es fs) (begin a r) (begin-ready a r L) ∙ begin-length a r L ∙ sym same in
-      alike-of s t (calm-opened s ready (run-calm a r L es fs q) none ∙ ap opened n ∙ sym (begin-opened a′ r′ L′)) (none ∙ sym (begin-blocks a′ r′ L′))
+      let n : length a′ ≡ length (arenaIn s) = same ∙ sym (run-length (thenJoined es fs) (begin a r q) (begin-ready a r q L k) ∙ begin-length a r q L) in
+      alike-of (ButKey q′) s t
+      (begin-opened a′ r′ q′ L′ k′ ∙ ap (λ (m : ℕ). opened m q′) n ∙ ap (withKey q′) (sym (calm-opened s ready (run-calm a r q L k es fs Q) none)))
+      (none ∙ sym (begin-blocks a′ r′ q′ L′))
 
-  pub emptied-answers : (gs : List Event) → answers gs (run (thenJoined es fs) (begin a r)) ≡ answers gs (begin a′ r′)
-  emptied-answers gs = answers-alike Equal Any equal-steady gs s t (any-always gs s t) emptied-alike ready (begin-ready a′ r′ L′)
-
-  pub emptied-records : (gs : List Event) → recordIn (run gs (run (thenJoined es fs) (begin a r))) ≡ recordIn (run gs (begin a′ r′))
-  emptied-records gs =
-      record-bytes (run gs s) (run-ready gs s ready)
-      ∙ ap (λ (h : Heap). bytes 4 (recordOf h))
-      (alike-heaps (run gs s) (run gs t) (run-alike Equal Any equal-steady gs s t (any-always gs s t) emptied-alike ready (begin-ready a′ r′ L′)))
-      ∙ sym (record-bytes (run gs t) (run-ready gs t (begin-ready a′ r′ L′)))
+  pub emptied-agrees : (gs : List Event) → Agrees butKey gs (run (thenJoined es fs) (begin a r q)) (begin a′ r′ q′)
+  emptied-agrees gs =
+      alike-agrees (ButKey q′) Any (butkey-steady q′) butKey (records-key q′) gs s t (any-always gs s t) emptied-alike ready (begin-ready a′ r′ q′ L′ k′)

@@ -108,6 +108,6 @@ answers (e ∷ es) s = answerTo e s ++ answers es (next e s)
 unfoldable pub numbers : List Event → State → List HeapAnswer
 numbers es s = map answerNumbers (answers es s)
 
--- a newly opened arena, over any bytes: no block is held
-unfoldable pub begin : List ℕ → List ℕ → State
-begin a r = kept [] (openCall a r)
+-- a newly opened arena, over any bytes and with the key q: no block is held
+unfoldable pub begin : List ℕ → List ℕ → ℕ → State
+begin a r q = kept [] (openCall a r q)

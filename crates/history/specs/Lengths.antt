@@ -91,6 +91,6 @@ unfolding run
 run-length [] s R = refl
 run-length (e ∷ es) s R = run-length es (next e s) (next-ready e s R) ∙ next-length e s R
 
-pub begin-length : (a r : List ℕ) → Lent a r → length (arenaIn (begin a r)) ≡ length a
+pub begin-length : (a r : List ℕ) (q : ℕ) → Lent a r → length (arenaIn (begin a r q)) ≡ length a
 unfolding begin
-begin-length a r L = ap (λ (x : C.After). length (arenaIn (kept [] x))) (open-lent a r L) ∙ left-length a r L (size 0 (length a) 1 ∷ [])
+begin-length a r q L = ap (λ (x : C.After). length (arenaIn (kept [] x))) (open-lent a r q L) ∙ left-length a r L (size 0 (length a) 1 ∷ [])

@@ -1,5 +1,6 @@
 pub mod Histories
 pub mod Performed
+pub mod Agrees
 pub mod Demand3
 pub mod Ready
 pub mod Called
@@ -10,12 +11,16 @@ pub mod Stretches
 pub mod Mending
 pub mod Calm
 pub mod Like
+pub mod Keyed
 pub mod Alike
 pub mod Lengths
-pub mod Emptied
 pub mod PerformedRuns
-pub mod Theorem
 pub mod Spared
-pub mod Bigger
 pub mod WrittenSame
+pub mod RecordBytes
+pub mod AgreesHold
+pub mod Emptied
+pub mod Theorem
+pub mod Bigger
 pub mod BiggerHolds
+pub mod Keys

@@ -42,9 +42,9 @@ changed C.Joining x bs = bs
 abbrev pub heldAfter : Call → HeapAnswer → List Block → List Block
 heldAfter c x bs = elim (eqb (x .no) 0) [ true ↦ changed c x bs | false ↦ bs ]
 
--- ---- an open of bytes a and r answered x and left s
-pub data Began : List ℕ → List ℕ → HeapAnswer → State → Type 0 where
-  began : {a r b q : List ℕ} {x : HeapAnswer} → back b q x ≡ numbered (openCall a r) → Began a r x (state b q [])
+-- ---- an open of bytes a and r, with the key q, answered x and left s
+pub data Began : List ℕ → List ℕ → ℕ → HeapAnswer → State → Type 0 where
+  began : {a r a′ r′ : List ℕ} {q : ℕ} {x : HeapAnswer} → back a′ r′ x ≡ numbered (openCall a r q) → Began a r q x (state a′ r′ [])
 
 -- ---- from one state to another by these events, with these numbers answered: each call's result meets its promise, and a holder's store is the history's
 pub data Did : State → List Event → List HeapAnswer → State → Type 0 where

@@ -3,7 +3,7 @@
 use mathlib.Core.Path.{_≡_, refl, sym, ap, _∙_, subst}
 use mathlib.Core.List.{List, [], _∷_}
 use mathlib.Core.Bool.{Bool, true, false}
-use Prim.Native.Nat.{ℕ, _+_}
+use Prim.Native.Nat.{ℕ, _+_, _^_, _<_}
 use native.Mathlib.Omega.{arith}
 use lib.Dec.{eqb}
 use borrow.Author.Tests.{ne-eqb}
@@ -30,15 +30,15 @@ opened-is : (y : After) → opened-state (numbered y) ≡ kept [] y
 unfolding opened-state
 opened-is (after b q x) = refl
 
-pub began-is : {a r : List ℕ} {x : HeapAnswer} {s : State} → Began a r x s → s ≡ begin a r
+pub began-is : {a r : List ℕ} {q : ℕ} {x : HeapAnswer} {s : State} → Began a r q x s → s ≡ begin a r q
 unfolding opened-state begin
-began-is {a} {r} (began e) = ap opened-state e ∙ opened-is (openCall a r)
+began-is {a} {r} {q} (began e) = ap opened-state e ∙ opened-is (openCall a r q)
 
-pub began-zeros : {a r : List ℕ} {x : HeapAnswer} {s : State} → Lent a r → Began a r x s → Zeros x
-began-zeros {a} {r} L (began e) = ap numbersBack e ∙ ap (λ (y : After). numbersBack (numbered y)) (open-lent a r L)
+pub began-zeros : {a r : List ℕ} {q : ℕ} {x : HeapAnswer} {s : State} → Lent a r → Began a r q x s → Zeros x
+began-zeros {a} {r} {q} L (began e) = ap numbersBack e ∙ ap (λ (y : After). numbersBack (numbered y)) (open-lent a r q L)
 
-pub began-ready : {a r : List ℕ} {x : HeapAnswer} {s : State} → Lent a r → Began a r x s → ReadyAt s
-began-ready {a} {r} L B = subst ReadyAt (sym (began-is B)) (begin-ready a r L)
+pub began-ready : {a r : List ℕ} {q : ℕ} {x : HeapAnswer} {s : State} → Lent a r → q < 2 ^ 64 → Began a r q x s → ReadyAt s
+began-ready {a} {r} {q} L k B = subst ReadyAt (sym (began-is B)) (begin-ready a r q L k)
 
 -- ---- a call: what a caller holds after it
 abbrev stateBack : Call → List Block → Back → State
@@ -127,10 +127,11 @@ did-numbers R (called c a r b q bs x {es} e d) =
 did-numbers R (stored p v s {es} d) = numbers-stored p v s es ∙ did-numbers (next-ready (Store p v) s R) d
 
 -- ---- and every run can be performed, from its open on
-pub begin-began : (a r : List ℕ) → Began a r (answerNumbers (answerOf (openCall a r))) (begin a r)
-begin-began a r =
-    let B : Began a r (answerNumbers (answerOf (openCall a r))) (state (arenaLeft (openCall a r)) (recordLeft (openCall a r)) []) = began (result-is (openCall a r)) in
-    subst (Began a r (answerNumbers (answerOf (openCall a r)))) (began-is B) B
+pub begin-began : (a r : List ℕ) (q : ℕ) → Began a r q (answerNumbers (answerOf (openCall a r q))) (begin a r q)
+begin-began a r q =
+    let y : After = openCall a r q in
+    let B : Began a r q (answerNumbers (answerOf y)) (state (arenaLeft y) (recordLeft y) []) = began (result-is y) in
+    subst (Began a r q (answerNumbers (answerOf y))) (began-is B) B
 
 call-did : (c : Call) (es : List Event) (s t : State) → ReadyAt s → Did (next (eventOf c) s) es (numbers es (next (eventOf c) s)) t
     → Did s (eventOf c ∷ es) (numbers (eventOf c ∷ es) s) t

@@ -4,7 +4,7 @@ use mathlib.Core.Path.{_≡_, refl, sym, ap, _∙_, subst}
 use mathlib.Core.List.{List, [], _∷_}
 use mathlib.Core.Bool.{Bool, true, false}
 use mathlib.Core.Logic.{⊎-elim}
-use Prim.Native.Nat.{ℕ, _+_, _-_, _%_, _≤_}
+use Prim.Native.Nat.{ℕ, _+_, _-_, _%_, _^_, _≤_, _<_}
 use native.Mathlib.Omega.{arith}
 use lib.Dec.{eqb, leb}
 use lib.ListN.{length, set}
@@ -45,13 +45,13 @@ use Rattle.history.specs.Called.{open-lent, grant-large, grant-called, r
 use Rattle.history.specs.Stores.{store-ready}
 
 -- ---- open
-pub begin-ready : (a r : List ℕ) → Lent a r → ReadyAt (begin a r)
+pub begin-ready : (a r : List ℕ) (q : ℕ) → Lent a r → q < 2 ^ 64 → ReadyAt (begin a r q)
 unfolding begin
-begin-ready a r L =
+begin-ready a r q L k =
     let n : ℕ = length a in
-    let o = opened-ends n (arenaWords a) (L .even) (L .least) (L .most) (omega (arith, length-arenaWords a, L .even)) in
-    subst (λ (x : C.After). ReadyAt (kept [] x)) (sym (open-lent a r L))
-    (left-ready a r L (opened n) (size 0 n 1 ∷ []) [] (record { good = o .0; low = omega arith }) (o .1)
+    let o = opened-ends n q (arenaWords a) k (L .even) (L .least) (L .most) (omega (arith, length-arenaWords a, L .even)) in
+    subst (λ (x : C.After). ReadyAt (kept [] x)) (sym (open-lent a r q L))
+    (left-ready a r L (opened n q) (size 0 n 1 ∷ []) [] (record { good = o .0; low = omega arith }) (o .1)
     (record { low = λ m l. refl; count = λ c. omega (arith, o .0 .shape .own c); sizes = tt }))
 
 -- ---- the steps

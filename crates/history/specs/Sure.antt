@@ -4,7 +4,7 @@ use mathlib.Core.Path.{_≡_, refl, sym, ap, _∙_, subst}
 use mathlib.Core.List.{List, [], _∷_, _++_, map}
 use mathlib.Core.Bool.{Bool, true, false}
 use mathlib.Core.Logic.{⊎-elim}
-use Prim.Native.Nat.{ℕ, _+_, _-_, _≤_}
+use Prim.Native.Nat.{ℕ, _+_, _-_, _^_, _≤_, _<_}
 use native.Mathlib.Omega.{arith}
 use lib.Dec.{eqb, leb, ltb}
 use borrow.Author.Tests.{lt-ltb, ne-eqb, leb-true, leb-false}
@@ -62,8 +62,8 @@ ready-live (state a r bs) R = λ c. ⊎-elim
     (λ z. loose-live (C.heapIn a r) c (R .sound .good .shape) (omega (arith, R .holds .count c)) ∙ sym (held-some bs (c + 16) z))
     (zero-or (heldAt (c + 16) bs))
 
-pub run-live : (a r : List ℕ) → Lent a r → (es : List Event) → LiveAt (run es (begin a r))
-run-live a r L es = ready-live (run es (begin a r)) (run-ready es (begin a r) (begin-ready a r L))
+pub run-live : (a r : List ℕ) (q : ℕ) → Lent a r → q < 2 ^ 64 → (es : List Event) → LiveAt (run es (begin a r q))
+run-live a r q L k es = ready-live (run es (begin a r q)) (run-ready es (begin a r q) (begin-ready a r q L k))
 
 -- ---- an audit finds no fault
 pub ready-audits : (s : State) → ReadyAt s → AuditsAt s
@@ -191,5 +191,5 @@ unfolding numbers
 ready-fair es s R = answers-fair es s R
 
 -- ---- in every run
-pub run-fair : (a r : List ℕ) → Lent a r → (es : List Event) → AllFair (numbers es (begin a r))
-run-fair a r L es = ready-fair es (begin a r) (begin-ready a r L)
+pub run-fair : (a r : List ℕ) (q : ℕ) → Lent a r → q < 2 ^ 64 → (es : List Event) → AllFair (numbers es (begin a r q))
+run-fair a r q L k es = ready-fair es (begin a r q) (begin-ready a r q L k)

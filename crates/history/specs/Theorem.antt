@@ -1,33 +1,36 @@
 -- Demand 3 holds of every history that is performed by the exported calls: nothing stays cut up, and an emptied heap is a new one. What is performed is a run
 -- (PerformedRuns), and the files before have each part of runs. Assumes nothing.
 use mathlib.Core.Path.{_≡_, sym, ap, _∙_, subst}
-use mathlib.Core.List.{List, [], _∷_, _++_, map}
-use Prim.Native.Nat.{ℕ}
+use mathlib.Core.List.{List, [], _∷_, _++_}
+use Prim.Native.Nat.{ℕ, _^_, _<_}
 use lib.ListN.{length}
-use Rattle.machine.specs.Calls.{answerNumbers}
 use Rattle.machine.specs.declared.HeapAnswer.{HeapAnswer}
 use Rattle.calls_consequences.specs.Results.{Lent}
-use Rattle.history.specs.Histories.{Event, Emptying, Joining, State, recordIn, blocksIn, run, answers, numbers, begin}
+use Rattle.history.specs.Histories.{Event, Emptying, Joining, State, blocksIn, run, numbers, begin}
 use Rattle.history.specs.Performed.{Began, Did}
 use Rattle.history.specs.Demand3.{AllFair, LiveAt, MendedAt, Quiet, New, Demand}
 use Rattle.history.specs.Ready.{ReadyAt}
 use Rattle.history.specs.Runs.{run-ready}
 use Rattle.history.specs.Sure.{ready-audits, ready-fair, run-fair, run-live, emptying-numbers, joining-numbers}
 use Rattle.history.specs.Calm.{run-append, thenJoined, run-mended}
-use Rattle.history.specs.Emptied.{emptied-records, emptied-answers}
+use Rattle.history.specs.Agrees.{butKey, AgreesPerformed}
+use Rattle.history.specs.Alike.{Alike, ButKey, Any, butkey-steady, any-always}
+use Rattle.history.specs.RecordBytes.{records-key}
+use Rattle.history.specs.AgreesHold.{alike-performed}
+use Rattle.history.specs.Emptied.{emptied-alike}
 use Rattle.history.specs.PerformedRuns.{began-is, began-zeros, began-ready, did-run, did-numbers}
 
 abbrev head-of : HeapAnswer → List HeapAnswer → HeapAnswer
 head-of y [] = y
 head-of y (x ∷ xs) = x
 
-module _ (a r : List ℕ) (x : HeapAnswer) (s : State) (L : Lent a r) (B : Began a r x s) (es : List Event) (xs : List HeapAnswer) (t : State) (D : Did s es xs t)
+module _ (a r : List ℕ) (q : ℕ) (x : HeapAnswer) (s : State) (L : Lent a r) (k : q < 2 ^ 64) (B : Began a r q x s) (es : List Event) (xs : List HeapAnswer) (t : State) (D : Did s es xs t)
     (y : HeapAnswer) (u : State) (E : Did t (Emptying ∷ []) (y ∷ []) u) (fs : List Event) (Q : Quiet fs) (ys : List HeapAnswer) (v : State) (F : Did u fs ys v)
     (z : HeapAnswer) (w : State) (J : Did v (Joining ∷ []) (z ∷ []) w) where
   ready : ReadyAt s
-  ready = began-ready L B
+  ready = began-ready L k B
 
-  came : run es (begin a r) ≡ t
+  came : run es (begin a r q) ≡ t
   came = ap (run es) (sym (began-is B)) ∙ did-run ready D
 
   did-ready : {s t : State} {es : List Event} {xs : List HeapAnswer} → ReadyAt s → Did s es xs t → ReadyAt t
@@ -45,8 +48,8 @@ module _ (a r : List ℕ) (x : HeapAnswer) (s : State) (L : Lent a r) (B : Began
   ready-w : ReadyAt w
   ready-w = did-ready ready-v J
 
-  joined : run (thenJoined es fs) (begin a r) ≡ w
-  joined = run-append es (Emptying ∷ (fs ++ Joining ∷ [])) (begin a r)
+  joined : run (thenJoined es fs) (begin a r q) ≡ w
+  joined = run-append es (Emptying ∷ (fs ++ Joining ∷ [])) (begin a r q)
       ∙ ap (run (Emptying ∷ (fs ++ Joining ∷ []))) came
       ∙ run-append (Emptying ∷ []) (fs ++ Joining ∷ []) t
       ∙ ap (run (fs ++ Joining ∷ [])) (did-run ready-t E)
@@ -54,42 +57,39 @@ module _ (a r : List ℕ) (x : HeapAnswer) (s : State) (L : Lent a r) (B : Began
       ∙ ap (run (Joining ∷ [])) (did-run ready-u F)
       ∙ did-run ready-v J
 
-  empty : blocksIn w ≡ [] → blocksIn (run (thenJoined es fs) (begin a r)) ≡ []
+  empty : blocksIn w ≡ [] → blocksIn (run (thenJoined es fs) (begin a r q)) ≡ []
   empty e = ap blocksIn joined ∙ e
 
+  agrees : blocksIn w ≡ [] → (b c : List ℕ) (p : ℕ) (i : HeapAnswer) (o : State) → Lent b c → p < 2 ^ 64 → length b ≡ length a → Began b c p i o
+      → (gs : List Event) (xs ys : List HeapAnswer) (t u : State) → Did w gs xs t → Did o gs ys u → AgreesPerformed butKey gs w xs ys t u
+  agrees e b c p i o M l n O gs xs ys t u G H =
+      alike-performed (ButKey p) Any (butkey-steady p) butKey (records-key p) gs w o (any-always gs w o)
+      (subst (λ (z : State). Alike (ButKey p) z o) joined
+      (subst (λ (z : State). Alike (ButKey p) (run (thenJoined es fs) (begin a r q)) z) (sym (began-is O)) (emptied-alike a r q L k es fs Q (empty e) b c p M l n)))
+      ready-w (began-ready M l O) xs ys t u G H
+
   new : blocksIn w ≡ [] → New (length a) w
-  unfolding numbers
   new e = record {
-    told = λ b q i o M n O gs xs ys t u G H.
-        sym (did-numbers ready-w G)
-        ∙ ap (λ (k : State). map answerNumbers (answers gs k)) (sym joined)
-        ∙ ap (map answerNumbers) (emptied-answers a r L es fs Q (empty e) b q M n gs)
-        ∙ ap (numbers gs) (sym (began-is O))
-        ∙ did-numbers (began-ready M O) H;
-    recs = λ b q i o M n O gs xs ys t u G H.
-        ap recordIn (sym (did-run ready-w G))
-        ∙ ap (λ (k : State). recordIn (run gs k)) (sym joined)
-        ∙ emptied-records a r L es fs Q (empty e) b q M n gs
-        ∙ ap (λ (k : State). recordIn (run gs k)) (sym (began-is O))
-        ∙ ap recordIn (did-run (began-ready M O) H);
+    told = λ b c p i o M l n O gs xs ys t u G H. agrees e b c p i o M l n O gs xs ys t u G H .told;
+    recs = λ b c p i o M l n O gs xs ys t u G H. agrees e b c p i o M l n O gs xs ys t u G H .records;
   }
 
   demand : Demand (length a) x xs t y ys v z w
   demand = record {
     opens = began-zeros L B;
-    fair = subst AllFair (ap (numbers es) (sym (began-is B)) ∙ did-numbers ready D) (run-fair a r L es);
+    fair = subst AllFair (ap (numbers es) (sym (began-is B)) ∙ did-numbers ready D) (run-fair a r q L k es);
     audits = ready-audits t ready-t;
-    live = subst LiveAt came (run-live a r L es);
+    live = subst LiveAt came (run-live a r q L k es);
     empties = ap (head-of y) (sym (did-numbers ready-t E) ∙ emptying-numbers t ready-t);
     between = subst AllFair (did-numbers ready-u F) (ready-fair fs u ready-u);
     halfway = ready-audits v ready-v;
     joins = ap (head-of z) (sym (did-numbers ready-v J) ∙ joining-numbers v ready-v);
-    mended = subst MendedAt joined (run-mended a r L es fs Q);
+    mended = subst MendedAt joined (run-mended a r q L k es fs Q);
     emptied = new;
   }
 
--- ---- the theorem: an open of lent bytes, any events performed, and then an emptying and, with no grant, release or resize between, a joining
-pub demand3 : (a r : List ℕ) (x : HeapAnswer) (s : State) → Lent a r → Began a r x s → (es : List Event) (xs : List HeapAnswer) (t : State) → Did s es xs t
+-- ---- the theorem: an open of lent bytes with any key, any events performed, and then an emptying and, with no grant, release or resize between, a joining
+pub demand3 : (a r : List ℕ) (q : ℕ) (x : HeapAnswer) (s : State) → Lent a r → q < 2 ^ 64 → Began a r q x s → (es : List Event) (xs : List HeapAnswer) (t : State) → Did s es xs t
     → (y : HeapAnswer) (u : State) → Did t (Emptying ∷ []) (y ∷ []) u → (fs : List Event) → Quiet fs → (ys : List HeapAnswer) (v : State) → Did u fs ys v
     → (z : HeapAnswer) (w : State) → Did v (Joining ∷ []) (z ∷ []) w → Demand (length a) x xs t y ys v z w
-demand3 a r x s L B es xs t D y u E fs Q ys v F z w J = demand a r x s L B es xs t D y u E fs Q ys v F z w J
+demand3 a r q x s L k B es xs t D y u E fs Q ys v F z w J = demand a r q x s L k B es xs t D y u E fs Q ys v F z w J

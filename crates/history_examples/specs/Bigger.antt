@@ -13,7 +13,7 @@ use Rattle.sizes.specs.Sizes.{need}
 use Rattle.machine.specs.Lists.{both, cnt}
 use Rattle.machine.specs.Heap.{Heap, stack, fast, bin, live?, recordOf}
 use Rattle.machine.specs.Writes.{heapOf}
-use Rattle.machine.specs.Primitives.{pop}
+use Rattle.machine.specs.Primitives.{takeCache}
 use Rattle.machine.specs.Release.{drain, releasePast, release, emptying}
 use Rattle.machine.specs.Grant.{grant}
 use Rattle.machine.specs.declared.Answer.the-variants.{Done, Granted, Refused}
@@ -22,8 +22,9 @@ use Rattle.machine.proofs.Script as X
 use Rattle.calls_consequences.specs.Results.{Lent}
 use Rattle.history.specs.Histories.{Event, Grant, Release, Resize, Emptying, Joining, Store, State, heapAt, arenaIn, next, run, answers, begin}
 use Rattle.history.specs.Alike.{said, Always}
-use Rattle.history.specs.Like.{withLen, answer, upTo9, short?, FewIn, FewFrom, Few}
-use Rattle.history.specs.Bigger.{Premise, written, butLength, Agrees}
+use Rattle.history.specs.Like.{given, withGiven, answer, upTo9, short?, FewIn, FewFrom, Few}
+use Rattle.history.specs.Agrees.{written, butGiven, Agrees}
+use Rattle.history.specs.Bigger.{Premise}
 use Rattle.history.specs.BiggerHolds.{bigger-agrees}
 use Rattle.le.specs.Number as L
 use Rattle.le.specs.Arena as B
@@ -55,11 +56,11 @@ not-true false e = refl
 
 fewIn? : ℕ → List ℕ → Heap → Bool
 fewIn? k [] h = true
-fewIn? k (c ∷ l) h = both (ltb (answer (releasePast c (heapOf (pop k h)))) consolidateFrom) (fewIn? k l (heapOf (releasePast c (heapOf (pop k h)))))
+fewIn? k (c ∷ l) h = both (ltb (answer (releasePast c (heapOf (takeCache k h)))) consolidateFrom) (fewIn? k l (heapOf (releasePast c (heapOf (takeCache k h)))))
 
 fewFrom? : ℕ → ℕ → Heap → Bool
 fewFrom? zero k h = true
-fewFrom? (suc m) k h = both (fewIn? k (stack h k) h) (fewFrom? m (suc k) (heapOf (drain releasePast k (stack h k) h)))
+fewFrom? (suc m) k h = both (fewIn? k (stack h k) h) (fewFrom? m (suc k) (heapOf (drain takeCache releasePast k (stack h k) h)))
 
 premise? : Event → Heap → Heap → Bool
 premise? (Grant n) h g = implies (leb n mostRequest) (not (short? (need n) (upTo9 (need n) h)))
@@ -78,12 +79,12 @@ always? (e ∷ es) s t = both (premise? e (heapAt s) (heapAt t)) (always? es (ne
 fewIn : (k : ℕ) (l : List ℕ) (h : Heap) → fewIn? k l h ≡ true → FewIn k l h
 unfolding fewIn?
 fewIn k [] h e = tt
-fewIn k (c ∷ l) h e = let p = both-parts _ _ e in (ltb-true _ _ (p .0), fewIn k l (heapOf (releasePast c (heapOf (pop k h)))) (p .1))
+fewIn k (c ∷ l) h e = let p = both-parts _ _ e in (ltb-true _ _ (p .0), fewIn k l (heapOf (releasePast c (heapOf (takeCache k h)))) (p .1))
 
 fewFrom : (m k : ℕ) (h : Heap) → fewFrom? m k h ≡ true → FewFrom m k h
 unfolding fewFrom?
 fewFrom zero k h e = tt
-fewFrom (suc m) k h e = let p = both-parts _ _ e in (fewIn k (stack h k) h (p .0), fewFrom m (suc k) (heapOf (drain releasePast k (stack h k) h)) (p .1))
+fewFrom (suc m) k h e = let p = both-parts _ _ e in (fewIn k (stack h k) h (p .0), fewFrom m (suc k) (heapOf (drain takeCache releasePast k (stack h k) h)) (p .1))
 
 premise : (e : Event) (h g : Heap) → premise? e h g ≡ true → Premise e h g
 unfolding premise?
@@ -105,15 +106,15 @@ all-below x l zero i = omega arith
 all-below x l (suc n) zero = l
 all-below x l (suc n) (suc i) = all-below x l n i
 
-lent : (n x : ℕ) → n % 16 ≡ 0 → 32 ≤ n → n ≤ 262144 → x < 256 → Lent (replicate n x) (replicate 1572 x)
+lent : (n x : ℕ) → n % 16 ≡ 0 → 32 ≤ n → n ≤ 262144 → x < 256 → Lent (replicate n x) (replicate 1580 x)
 lent n x e l m b =
     let k : length (replicate n x) ≡ n = length-replicate n x in
-    record { even = rw k e; least = omega arith; most = omega arith; long = refl; bytes = all-below x b n; words = all-below x b 1572 }
+    record { even = rw k e; least = omega arith; most = omega arith; long = refl; bytes = all-below x b n; words = all-below x b 1580 }
 
--- newly opened; every step of a run from there unfolds with it
+-- newly opened, with the key x; every step of a run from there unfolds with it
 unfoldable pub over : ℕ → ℕ → State
-unfolding upTo9 next begin L.numberFrom L.number L.words L.digits L.bytes B.arenaWords S.need S.usable S.cacheOf S.fastOf S.largeBin S.binOf H.recordOf W.listAt W.tilesOf W.stacksOf W.binsOf U.tileFault U.goodFrom U.listFault U.flagFault U.auditOf C.openCall C.grantCall C.releaseCall C.jobCall C.closedRecord E.absorb E.joinNext E.putDown E.join E.releasePast E.release E.drain E.drains E.consolidate E.emptying E.joining G.step1 G.moveFast G.step2 G.takeLast G.moveLasts G.step3 G.step4 G.split G.sortIn G.splitLone G.keep G.turnAt G.turn G.swept G.sweep G.step5 G.carve G.step8 G.step6 G.step7 G.step9 G.pass G.again G.from4 G.seek G.grant
-over n x = begin (replicate n x) (replicate 1572 x)
+unfolding upTo9 next begin L.numberFrom L.number L.words L.digits L.bytes B.arenaWords S.need S.usable S.cacheOf S.fastOf S.largeBin S.binOf H.recordOf W.listAt W.tilesOf W.stacksOf W.binsOf U.tileFault U.goodFrom U.listFault U.flagFault U.auditBy C.openCall C.grantCall C.releaseCall C.jobCall C.closedRecord E.absorb E.joinNext E.putDown E.join E.releasePast E.release E.drain E.drains E.consolidate E.emptying E.joining G.step1 G.moveFast G.step2 G.takeLast G.moveLasts G.step3 G.step4 G.split G.sortIn G.splitLone G.keep G.turnAt G.turn G.swept G.sweep G.step5 G.carve G.step8 G.step6 G.step7 G.step9 G.pass G.again G.from4 G.seek G.grant
+over n x = begin (replicate n x) (replicate 1580 x) x
 
 -- ---- 256 bytes of 0 and 384 of 1. A double release is refused; in the emptying a block is joined to the top, which yields 176 bytes in the one and 304 in the
 -- other, and the joining joins the one released before it
@@ -124,11 +125,11 @@ pub sample-meets : Always Premise sample (over 256 0) (over 384 1)
 unfolding sample over always?
 sample-meets = always sample (over 256 0) (over 384 1) refl
 
-pub sample-agrees : Agrees sample (over 256 0) (over 384 1)
+pub sample-agrees : Agrees butGiven sample (over 256 0) (over 384 1)
 unfolding over
 sample-agrees =
-    bigger-agrees (replicate 256 0) (replicate 1572 0) (replicate 384 1) (replicate 1572 1) (lent 256 0 refl (omega arith) (omega arith) (omega arith))
-    (lent 384 1 refl (omega arith) (omega arith) (omega arith)) (omega arith) sample sample-meets
+    bigger-agrees (replicate 256 0) (replicate 1580 0) (replicate 384 1) (replicate 1580 1) 0 1 (lent 256 0 refl (omega arith) (omega arith) (omega arith))
+    (lent 384 1 refl (omega arith) (omega arith) (omega arith)) (omega arith) (omega arith) (omega arith) sample sample-meets
 
 pub sample-smaller :
     answers sample (over 256 0) ≡ Granted 16 24 ∷ Granted 48 40 ∷ Granted 96 136 ∷ Done ∷ Refused N.NotLive ∷ Done ∷ Done ∷ Done ∷ Granted 48 104 ∷ []
@@ -148,11 +149,11 @@ pub exact-meets : Always Premise exact (over 128 255) (over 272 0)
 unfolding exact over always?
 exact-meets = always exact (over 128 255) (over 272 0) refl
 
-pub exact-agrees : Agrees exact (over 128 255) (over 272 0)
+pub exact-agrees : Agrees butGiven exact (over 128 255) (over 272 0)
 unfolding over
 exact-agrees =
-    bigger-agrees (replicate 128 255) (replicate 1572 255) (replicate 272 0) (replicate 1572 0) (lent 128 255 refl (omega arith) (omega arith) (omega arith))
-    (lent 272 0 refl (omega arith) (omega arith) (omega arith)) (omega arith) exact exact-meets
+    bigger-agrees (replicate 128 255) (replicate 1580 255) (replicate 272 0) (replicate 1580 0) 255 0 (lent 128 255 refl (omega arith) (omega arith) (omega arith))
+    (lent 272 0 refl (omega arith) (omega arith) (omega arith)) (omega arith) (omega arith) (omega arith) exact exact-meets
 
 pub exact-smaller : answers exact (over 128 255) ≡ Granted 16 24 ∷ Granted 48 56 ∷ Refused N.Request ∷ Done ∷ Done ∷ Done ∷ Done ∷ Granted 48 56 ∷ []
 unfolding exact over answers
@@ -227,7 +228,7 @@ helped-larger = refl
 pub two-fast : ℕ → Heap
 two-fast n = X.heapAfter (X.script n (X.G 24 ∷ X.G 24 ∷ X.G 24 ∷ X.G 1112 ∷ X.R 16 ∷ X.R 48 ∷ X.E ∷ []))
 
-pub two-fast-alike : two-fast 65632 ≡ withLen 65632 (two-fast 65616)
+pub two-fast-alike : two-fast 65632 ≡ withGiven (λ o. given (two-fast 65632)) (two-fast 65616)
 unfolding two-fast X.script
 two-fast-alike = refl
 
@@ -250,7 +251,7 @@ fast-larger = (refl, refl)
 
 -- (byte 520 behind the length: fast list 0)
 pub records-differ :
-    butLength (L.bytes 4 (recordOf (heapOf (release 96 (two-fast 65616))))) ≡ butLength (L.bytes 4 (recordOf (heapOf (release 96 (two-fast 65632))))) → ⊥
+    butGiven (L.bytes 4 (recordOf (heapOf (release 96 (two-fast 65616))))) ≡ butGiven (L.bytes 4 (recordOf (heapOf (release 96 (two-fast 65632))))) → ⊥
 unfolding two-fast X.script L.bytes L.digits
 records-differ e = let z : _≡_ {A = ℕ} 0 255 = ap (λ (l : List ℕ). getD l 520 0) e in omega arith
 

@@ -23,21 +23,21 @@ use Rattle.machine.specs.Resize as Z
 use Rattle.machine.specs.Calls as C
 use Rattle.machine.specs.declared.Refusal.the-variants as N
 
--- bytes that are lent: 256 and 1,572 zeros
+-- bytes that are lent: 256 and 1,580 zeros
 zeros : (n i : ℕ) → getD (replicate n 0) i 0 < 256
 zeros zero i = omega arith
 zeros (suc n) zero = omega arith
 zeros (suc n) (suc i) = zeros n i
 
-pub sample-lent : Lent (replicate 256 0) (replicate 1572 0)
-sample-lent = record { even = refl; least = omega arith; most = omega arith; long = refl; bytes = zeros 256; words = zeros 1572 }
+pub sample-lent : Lent (replicate 256 0) (replicate 1580 0)
+sample-lent = record { even = refl; least = omega arith; most = omega arith; long = refl; bytes = zeros 256; words = zeros 1580 }
 
 pub sample-run :
     answers
     (Grant 24 ∷ Grant 25 ∷ Release 16 ∷ Release 16 ∷ Grant 0 ∷ Grant 200 ∷ Release 48 ∷ Release 16 ∷ Emptying ∷ Joining ∷ Grant 200 ∷ [])
-    (begin (replicate 256 0) (replicate 1572 0))
+    (begin (replicate 256 0) (replicate 1580 0) 0)
     ≡ Granted 16 24 ∷ Granted 48 40 ∷ Done ∷ Refused N.NotLive ∷ Granted 16 24 ∷ Refused N.NoRoom ∷ Done ∷ Done ∷ Done ∷ Done ∷ Granted 16 200 ∷ []
-unfolding next answers begin L.numberFrom L.number L.words L.digits L.bytes B.arenaWords S.need S.usable S.cacheOf S.fastOf S.largeBin S.binOf H.recordOf W.listAt W.tilesOf W.stacksOf W.binsOf U.tileFault U.goodFrom U.listFault U.flagFault U.auditOf C.openCall C.grantCall C.releaseCall C.jobCall C.closedRecord E.absorb E.joinNext E.putDown E.join E.releasePast E.release E.drain E.drains E.consolidate E.emptying E.joining G.step1 G.moveFast G.step2 G.takeLast G.moveLasts G.step3 G.step4 G.split G.sortIn G.splitLone G.keep G.turnAt G.turn G.swept G.sweep G.step5 G.carve G.step8 G.step6 G.step7 G.step9 G.pass G.again G.from4 G.seek G.grant
+unfolding next answers begin L.numberFrom L.number L.words L.digits L.bytes B.arenaWords S.need S.usable S.cacheOf S.fastOf S.largeBin S.binOf H.recordOf W.listAt W.tilesOf W.stacksOf W.binsOf U.tileFault U.goodFrom U.listFault U.flagFault U.auditBy C.openCall C.grantCall C.releaseCall C.jobCall C.closedRecord E.absorb E.joinNext E.putDown E.join E.releasePast E.release E.drain E.drains E.consolidate E.emptying E.joining G.step1 G.moveFast G.step2 G.takeLast G.moveLasts G.step3 G.step4 G.split G.sortIn G.splitLone G.keep G.turnAt G.turn G.swept G.sweep G.step5 G.carve G.step8 G.step6 G.step7 G.step9 G.pass G.again G.from4 G.seek G.grant
 sample-run = refl
 
 -- resizes of null, moved, in place from the top, of a block that is no more, for too much, without room, in place with a rest, to length 0: the block that
@@ -45,9 +45,9 @@ sample-run = refl
 pub sample-resizes :
     answers
     (Resize 0 24 ∷ Grant 24 ∷ Resize 16 40 ∷ Resize 80 100 ∷ Resize 16 24 ∷ Resize 80 262145 ∷ Resize 80 200 ∷ Resize 80 24 ∷ Resize 48 0 ∷ Release 80 ∷ Emptying ∷ Joining ∷ Grant 200 ∷ [])
-    (begin (replicate 256 0) (replicate 1572 0))
+    (begin (replicate 256 0) (replicate 1580 0) 0)
     ≡ Granted 16 24 ∷ Granted 48 24 ∷ Granted 80 40 ∷ Granted 80 104 ∷ Refused N.NotLive ∷ Refused N.Request ∷ Refused N.NoRoom ∷ Granted 80 24 ∷ Done ∷ Done ∷ Done ∷ Done ∷ Granted 16 200 ∷ []
-unfolding next answers begin L.numberFrom L.number L.words L.digits L.bytes B.arenaWords S.need S.usable S.cacheOf S.fastOf S.largeBin S.binOf H.recordOf W.listAt W.tilesOf W.stacksOf W.binsOf U.tileFault U.goodFrom U.listFault U.flagFault U.auditOf C.openCall C.grantCall C.releaseCall C.resizeCall C.jobCall C.closedRecord E.absorb E.joinNext E.putDown E.join E.releasePast E.release E.drain E.drains E.consolidate E.emptying E.joining G.step1 G.moveFast G.step2 G.takeLast G.moveLasts G.step3 G.step4 G.split G.sortIn G.splitLone G.keep G.turnAt G.turn G.swept G.sweep G.step5 G.carve G.step8 G.step6 G.step7 G.step9 G.pass G.again G.from4 G.seek G.grant Z.nextP Z.finish Z.resize
+unfolding next answers begin L.numberFrom L.number L.words L.digits L.bytes B.arenaWords S.need S.usable S.cacheOf S.fastOf S.largeBin S.binOf H.recordOf W.listAt W.tilesOf W.stacksOf W.binsOf U.tileFault U.goodFrom U.listFault U.flagFault U.auditBy C.openCall C.grantCall C.releaseCall C.resizeCall C.jobCall C.closedRecord E.absorb E.joinNext E.putDown E.join E.releasePast E.release E.drain E.drains E.consolidate E.emptying E.joining G.step1 G.moveFast G.step2 G.takeLast G.moveLasts G.step3 G.step4 G.split G.sortIn G.splitLone G.keep G.turnAt G.turn G.swept G.sweep G.step5 G.carve G.step8 G.step6 G.step7 G.step9 G.pass G.again G.from4 G.seek G.grant Z.nextP Z.finish Z.resize
 sample-resizes = refl
 
 -- the block sought is found right behind the old one, and joined to it. The search bins the chunk before, which clears the old block's P: it keeps P as that
@@ -55,9 +55,9 @@ sample-resizes = refl
 pub sample-joined :
     answers
     (Grant 0 ∷ Grant 0 ∷ Grant 0 ∷ Grant 0 ∷ Grant 0 ∷ Grant 0 ∷ Grant 0 ∷ Grant 0 ∷ Grant 40 ∷ Grant 0 ∷ Release 16 ∷ Release 48 ∷ Release 80 ∷ Release 112 ∷ Release 144 ∷ Release 176 ∷ Release 208 ∷ Release 240 ∷ Release 320 ∷ Resize 272 80 ∷ Emptying ∷ Joining ∷ [])
-    (begin (replicate 432 0) (replicate 1572 0))
+    (begin (replicate 432 0) (replicate 1580 0) 0)
     ≡ Granted 16 24 ∷ Granted 48 24 ∷ Granted 80 24 ∷ Granted 112 24 ∷ Granted 144 24 ∷ Granted 176 24 ∷ Granted 208 24 ∷ Granted 240 24 ∷ Granted 272 40 ∷ Granted 320 24 ∷ Done ∷ Done ∷ Done ∷ Done ∷ Done ∷ Done ∷ Done ∷ Done ∷ Done ∷ Granted 272 88 ∷ Done ∷ Done ∷ []
-unfolding next answers begin L.numberFrom L.number L.words L.digits L.bytes B.arenaWords S.need S.usable S.cacheOf S.fastOf S.largeBin S.binOf H.recordOf W.listAt W.tilesOf W.stacksOf W.binsOf U.tileFault U.goodFrom U.listFault U.flagFault U.auditOf C.openCall C.grantCall C.releaseCall C.resizeCall C.jobCall C.closedRecord E.absorb E.joinNext E.putDown E.join E.releasePast E.release E.drain E.drains E.consolidate E.emptying E.joining G.step1 G.moveFast G.step2 G.takeLast G.moveLasts G.step3 G.step4 G.split G.sortIn G.splitLone G.keep G.turnAt G.turn G.swept G.sweep G.step5 G.carve G.step8 G.step6 G.step7 G.step9 G.pass G.again G.from4 G.seek G.grant Z.nextP Z.finish Z.resize
+unfolding next answers begin L.numberFrom L.number L.words L.digits L.bytes B.arenaWords S.need S.usable S.cacheOf S.fastOf S.largeBin S.binOf H.recordOf W.listAt W.tilesOf W.stacksOf W.binsOf U.tileFault U.goodFrom U.listFault U.flagFault U.auditBy C.openCall C.grantCall C.releaseCall C.resizeCall C.jobCall C.closedRecord E.absorb E.joinNext E.putDown E.join E.releasePast E.release E.drain E.drains E.consolidate E.emptying E.joining G.step1 G.moveFast G.step2 G.takeLast G.moveLasts G.step3 G.step4 G.split G.sortIn G.splitLone G.keep G.turnAt G.turn G.swept G.sweep G.step5 G.carve G.step8 G.step6 G.step7 G.step9 G.pass G.again G.from4 G.seek G.grant Z.nextP Z.finish Z.resize
 sample-joined = refl
 
 -- 32 bytes lie before the one block that is held, and neither a binned chunk nor the top begins there: the heap is cut up
@@ -94,18 +94,18 @@ cut (state a r bs) e M =
     ⊎-elim (λ z. omega (arith, z .0, b)) (λ z. omega (arith, z .0, t)) (M′ .each 0 32 (subst (λ (k : ℕ). Stretch second k 0 32) (sym n) gap) .kind)
 
 -- what the theorem says is false of a run without an emptying and a joining: a cached chunk is no free chunk
-pub sample-cut : MendedAt (run (Grant 24 ∷ Grant 24 ∷ Release 16 ∷ []) (begin (replicate 128 0) (replicate 1572 0))) → ⊥
-unfolding run next begin L.numberFrom L.number L.words L.digits L.bytes B.arenaWords S.need S.usable S.cacheOf S.fastOf S.largeBin S.binOf H.recordOf W.listAt W.tilesOf W.stacksOf W.binsOf U.tileFault U.goodFrom U.listFault U.flagFault U.auditOf C.openCall C.grantCall C.releaseCall C.jobCall C.closedRecord E.absorb E.joinNext E.putDown E.join E.releasePast E.release E.drain E.drains E.consolidate E.emptying E.joining G.step1 G.moveFast G.step2 G.takeLast G.moveLasts G.step3 G.step4 G.split G.sortIn G.splitLone G.keep G.turnAt G.turn G.swept G.sweep G.step5 G.carve G.step8 G.step6 G.step7 G.step9 G.pass G.again G.from4 G.seek G.grant second seen
-sample-cut = cut (run (Grant 24 ∷ Grant 24 ∷ Release 16 ∷ []) (begin (replicate 128 0) (replicate 1572 0))) refl
+pub sample-cut : MendedAt (run (Grant 24 ∷ Grant 24 ∷ Release 16 ∷ []) (begin (replicate 128 0) (replicate 1580 0) 0)) → ⊥
+unfolding run next begin L.numberFrom L.number L.words L.digits L.bytes B.arenaWords S.need S.usable S.cacheOf S.fastOf S.largeBin S.binOf H.recordOf W.listAt W.tilesOf W.stacksOf W.binsOf U.tileFault U.goodFrom U.listFault U.flagFault U.auditBy C.openCall C.grantCall C.releaseCall C.jobCall C.closedRecord E.absorb E.joinNext E.putDown E.join E.releasePast E.release E.drain E.drains E.consolidate E.emptying E.joining G.step1 G.moveFast G.step2 G.takeLast G.moveLasts G.step3 G.step4 G.split G.sortIn G.splitLone G.keep G.turnAt G.turn G.swept G.sweep G.step5 G.carve G.step8 G.step6 G.step7 G.step9 G.pass G.again G.from4 G.seek G.grant second seen
+sample-cut = cut (run (Grant 24 ∷ Grant 24 ∷ Release 16 ∷ []) (begin (replicate 128 0) (replicate 1580 0) 0)) refl
 
 -- so it is with a grant and its release between the two: the released chunk is cached, and a joining leaves it
-pub sample-grant-between : MendedAt (run (Grant 24 ∷ Grant 24 ∷ Release 16 ∷ Emptying ∷ Grant 24 ∷ Release 16 ∷ Joining ∷ []) (begin (replicate 128 0) (replicate 1572 0))) → ⊥
-unfolding run next begin L.numberFrom L.number L.words L.digits L.bytes B.arenaWords S.need S.usable S.cacheOf S.fastOf S.largeBin S.binOf H.recordOf W.listAt W.tilesOf W.stacksOf W.binsOf U.tileFault U.goodFrom U.listFault U.flagFault U.auditOf C.openCall C.grantCall C.releaseCall C.jobCall C.closedRecord E.absorb E.joinNext E.putDown E.join E.releasePast E.release E.drain E.drains E.consolidate E.emptying E.joining G.step1 G.moveFast G.step2 G.takeLast G.moveLasts G.step3 G.step4 G.split G.sortIn G.splitLone G.keep G.turnAt G.turn G.swept G.sweep G.step5 G.carve G.step8 G.step6 G.step7 G.step9 G.pass G.again G.from4 G.seek G.grant second seen
+pub sample-grant-between : MendedAt (run (Grant 24 ∷ Grant 24 ∷ Release 16 ∷ Emptying ∷ Grant 24 ∷ Release 16 ∷ Joining ∷ []) (begin (replicate 128 0) (replicate 1580 0) 0)) → ⊥
+unfolding run next begin L.numberFrom L.number L.words L.digits L.bytes B.arenaWords S.need S.usable S.cacheOf S.fastOf S.largeBin S.binOf H.recordOf W.listAt W.tilesOf W.stacksOf W.binsOf U.tileFault U.goodFrom U.listFault U.flagFault U.auditBy C.openCall C.grantCall C.releaseCall C.jobCall C.closedRecord E.absorb E.joinNext E.putDown E.join E.releasePast E.release E.drain E.drains E.consolidate E.emptying E.joining G.step1 G.moveFast G.step2 G.takeLast G.moveLasts G.step3 G.step4 G.split G.sortIn G.splitLone G.keep G.turnAt G.turn G.swept G.sweep G.step5 G.carve G.step8 G.step6 G.step7 G.step9 G.pass G.again G.from4 G.seek G.grant second seen
 sample-grant-between =
-    cut (run (Grant 24 ∷ Grant 24 ∷ Release 16 ∷ Emptying ∷ Grant 24 ∷ Release 16 ∷ Joining ∷ []) (begin (replicate 128 0) (replicate 1572 0))) refl
+    cut (run (Grant 24 ∷ Grant 24 ∷ Release 16 ∷ Emptying ∷ Grant 24 ∷ Release 16 ∷ Joining ∷ []) (begin (replicate 128 0) (replicate 1580 0) 0)) refl
 
 -- and with the joining first: the emptying leaves the chunk on a fast list
-pub sample-joined-first : MendedAt (run (Grant 24 ∷ Grant 24 ∷ Release 16 ∷ Joining ∷ Emptying ∷ []) (begin (replicate 128 0) (replicate 1572 0))) → ⊥
-unfolding run next begin L.numberFrom L.number L.words L.digits L.bytes B.arenaWords S.need S.usable S.cacheOf S.fastOf S.largeBin S.binOf H.recordOf W.listAt W.tilesOf W.stacksOf W.binsOf U.tileFault U.goodFrom U.listFault U.flagFault U.auditOf C.openCall C.grantCall C.releaseCall C.jobCall C.closedRecord E.absorb E.joinNext E.putDown E.join E.releasePast E.release E.drain E.drains E.consolidate E.emptying E.joining G.step1 G.moveFast G.step2 G.takeLast G.moveLasts G.step3 G.step4 G.split G.sortIn G.splitLone G.keep G.turnAt G.turn G.swept G.sweep G.step5 G.carve G.step8 G.step6 G.step7 G.step9 G.pass G.again G.from4 G.seek G.grant second seen
+pub sample-joined-first : MendedAt (run (Grant 24 ∷ Grant 24 ∷ Release 16 ∷ Joining ∷ Emptying ∷ []) (begin (replicate 128 0) (replicate 1580 0) 0)) → ⊥
+unfolding run next begin L.numberFrom L.number L.words L.digits L.bytes B.arenaWords S.need S.usable S.cacheOf S.fastOf S.largeBin S.binOf H.recordOf W.listAt W.tilesOf W.stacksOf W.binsOf U.tileFault U.goodFrom U.listFault U.flagFault U.auditBy C.openCall C.grantCall C.releaseCall C.jobCall C.closedRecord E.absorb E.joinNext E.putDown E.join E.releasePast E.release E.drain E.drains E.consolidate E.emptying E.joining G.step1 G.moveFast G.step2 G.takeLast G.moveLasts G.step3 G.step4 G.split G.sortIn G.splitLone G.keep G.turnAt G.turn G.swept G.sweep G.step5 G.carve G.step8 G.step6 G.step7 G.step9 G.pass G.again G.from4 G.seek G.grant second seen
 sample-joined-first =
-    cut (run (Grant 24 ∷ Grant 24 ∷ Release 16 ∷ Joining ∷ Emptying ∷ []) (begin (replicate 128 0) (replicate 1572 0))) refl
+    cut (run (Grant 24 ∷ Grant 24 ∷ Release 16 ∷ Joining ∷ Emptying ∷ []) (begin (replicate 128 0) (replicate 1580 0) 0)) refl

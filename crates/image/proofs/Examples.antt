@@ -7,12 +7,12 @@ use Rattle.le.specs.Number.{number, numberFrom, digits}
 use Rattle.image.specs.Image.{image, afterReading, readCall}
 use Rattle.image.specs.declared.Reading.the-variants.{NoMark, NoVersion, WrongLength}
 
--- ---- the mark HPI, version 1, the arena's length, low bytes first
-head-of-32 : take 9 (image (replicate 32 0) (replicate 1572 0)) ≡ 72 ∷ 80 ∷ 73 ∷ 1 ∷ 0 ∷ 32 ∷ 0 ∷ 0 ∷ 0 ∷ []
+-- ---- the mark HPI, version 2, the arena's length, low bytes first
+head-of-32 : take 9 (image (replicate 32 0) (replicate 1580 0)) ≡ 72 ∷ 80 ∷ 73 ∷ 2 ∷ 0 ∷ 32 ∷ 0 ∷ 0 ∷ 0 ∷ []
 unfolding image digits
 head-of-32 = refl
 
-head-of-288 : take 9 (image (replicate 288 0) (replicate 1572 0)) ≡ 72 ∷ 80 ∷ 73 ∷ 1 ∷ 0 ∷ 32 ∷ 1 ∷ 0 ∷ 0 ∷ []
+head-of-288 : take 9 (image (replicate 288 0) (replicate 1580 0)) ≡ 72 ∷ 80 ∷ 73 ∷ 2 ∷ 0 ∷ 32 ∷ 1 ∷ 0 ∷ 0 ∷ []
 unfolding image digits
 head-of-288 = refl
 
@@ -24,21 +24,29 @@ module _ (a r : List ℕ) where
   four-bytes = refl
 
   -- neither mark nor version: number 6 comes before number 7
-  wrong-mark : readCall (72 ∷ 80 ∷ 74 ∷ 2 ∷ 0 ∷ []) a r ≡ afterReading a r NoMark
+  wrong-mark : readCall (72 ∷ 80 ∷ 74 ∷ 3 ∷ 0 ∷ []) a r ≡ afterReading a r NoMark
   unfolding readCall
   wrong-mark = refl
 
-  -- version 2, and no length: number 7 comes before number 1
-  version-2 : readCall (72 ∷ 80 ∷ 73 ∷ 2 ∷ 0 ∷ []) a r ≡ afterReading a r NoVersion
+  -- versions 0 and 3, and no length: number 7 comes before number 1
+  version-0 : readCall (72 ∷ 80 ∷ 73 ∷ 0 ∷ 0 ∷ []) a r ≡ afterReading a r NoVersion
   unfolding readCall number numberFrom
-  version-2 = refl
+  version-0 = refl
+
+  version-3 : readCall (72 ∷ 80 ∷ 73 ∷ 3 ∷ 0 ∷ []) a r ≡ afterReading a r NoVersion
+  unfolding readCall number numberFrom
+  version-3 = refl
 
   -- the version's bytes the other way round
   version-256 : readCall (72 ∷ 80 ∷ 73 ∷ 0 ∷ 1 ∷ []) a r ≡ afterReading a r NoVersion
   unfolding readCall number numberFrom
   version-256 = refl
 
-  -- a mark, version 1, and no length: number 1
+  -- a mark, version 1 or 2, and no length: number 1
+  no-length-2 : readCall (72 ∷ 80 ∷ 73 ∷ 2 ∷ 0 ∷ []) a r ≡ afterReading a r WrongLength
+  unfolding readCall number numberFrom
+  no-length-2 = refl
+
   no-length : readCall (72 ∷ 80 ∷ 73 ∷ 1 ∷ 0 ∷ []) a r ≡ afterReading a r WrongLength
   unfolding readCall number numberFrom
   no-length = refl

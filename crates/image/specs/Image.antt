@@ -1,13 +1,18 @@
 -- A heap in a file: what its bytes are, and what writing and reading one answer and leave. Definitions only.
 use mathlib.Core.List.{List, [], _∷_, _++_}
 use mathlib.Core.Bool.{Bool, true, false}
-use Prim.Native.Nat.{ℕ, _+_}
-use lib.Dec.{eqb, leb}
-use lib.ListN.{length, getD, take, drop}
-use Rattle.le.specs.Number.{number, digits}
-use Rattle.sizes.specs.Limits.{recordBytes}
+use Prim.Native.Nat.{ℕ, _+_, _-_}
+use lib.Dec.{eqb, ltb, leb}
+use lib.ListN.{length, getD, take, drop, replicate}
+use Rattle.le.specs.Number.{number, digits, bytes}
+use Rattle.le.specs.Arena.{arenaWords}
+use Rattle.sizes.specs.Limits.{recordBytes, newest}
 use Rattle.machine.specs.Lists.{both}
-use Rattle.machine.specs.Calls.{shape?, arenaAllowed?, auditCall, faultNumbers}
+use Rattle.machine.specs.Heap.{Heap}
+use Rattle.machine.specs.Writes.{apply}
+use Rattle.machine.specs.Audit.{sound?, auditBy}
+use Rattle.machine.specs.Calls.{shape?, arenaAllowed?, wordsOf, heapIn, faultNumbers}
+use Rattle.image_keys.specs.Keys.{keysOf}
 use Rattle.machine.specs.declared.{Answer.Answer, HeapFault.HeapFault}
 use Rattle.machine.specs.declared.Answer.the-variants.{Done, Refused}
 use Rattle.machine.specs.declared.Refusal.the-variants as R
@@ -18,11 +23,16 @@ use Rattle.image.specs.declared.Reading.the-variants.{NoMark, NoVersion,
 abbrev pub mark : List ℕ
 mark = 72 ∷ 80 ∷ 73 ∷ []
 
-abbrev pub version : ℕ
-version = 1
+-- version 1 has a record of 1,572 bytes, without a key, and no keys in the cache; version 2, the newest, is the heap as it is
+abbrev pub known? : ℕ → Bool
+known? v = both (leb 1 v) (leb v newest)
 
+abbrev pub recordBytesBy : ℕ → ℕ
+recordBytesBy v = elim (ltb v 2) [ true ↦ 1572 | false ↦ recordBytes ]
+
+-- a writing writes the newest
 unfoldable pub image : List ℕ → List ℕ → List ℕ
-image a r = mark ++ (digits 2 version ++ (digits 4 (length a) ++ (r ++ a)))
+image a r = mark ++ (digits 2 newest ++ (digits 4 (length a) ++ (r ++ a)))
 
 -- where the numbers and the record stand
 abbrev pub versionAt : ℕ
@@ -34,16 +44,16 @@ lengthAt = 5
 abbrev pub recordAt : ℕ
 recordAt = 9
 
--- the file of an arena of n bytes
-abbrev pub imageBytes : ℕ → ℕ
-imageBytes n = recordAt + (recordBytes + n)
+-- the file of an arena of n bytes, by its version
+abbrev pub imageBytes : ℕ → ℕ → ℕ
+imageBytes v n = recordAt + (recordBytesBy v + n)
 
 -- ---- writing: file bytes and answer. Number 1 for the shape of arena or record, or a file buffer of another length; a refusal writes nothing
 pub data Written : Type 0 where
   written : List ℕ → Answer → Written
 
 unfoldable pub writeCall : List ℕ → List ℕ → List ℕ → Written
-writeCall a r f = elim (both (shape? a r) (eqb (length f) (imageBytes (length a)))) [ true ↦ written (image a r) Done | false ↦ written f (Refused R.Shape) ]
+writeCall a r f = elim (both (shape? a r) (eqb (length f) (imageBytes newest (length a)))) [ true ↦ written (image a r) Done | false ↦ written f (Refused R.Shape) ]
 
 -- ---- what stands in a file
 abbrev pub marked? : List ℕ → Bool
@@ -55,26 +65,37 @@ versionIn f = number 2 f versionAt
 abbrev pub lengthIn : List ℕ → ℕ
 lengthIn f = number 4 f lengthAt
 
+-- an older record is completed with zeros: key 0
 abbrev pub recordIn : List ℕ → List ℕ
-recordIn f = take recordBytes (drop recordAt f)
+recordIn f = take (recordBytesBy (versionIn f)) (drop recordAt f) ++ replicate (recordBytes - recordBytesBy (versionIn f)) 0
 
 abbrev pub arenaIn : List ℕ → List ℕ
-arenaIn f = drop (recordAt + recordBytes) f
+arenaIn f = drop (recordAt + recordBytesBy (versionIn f)) f
 
 -- the length is allowed, the file's, and that of the lent arena; the lent record is one
 abbrev pub fits? : List ℕ → List ℕ → List ℕ → Bool
-fits? f a r = both (arenaAllowed? (lengthIn f)) (both (eqb (length f) (imageBytes (lengthIn f))) (both (eqb (length a) (lengthIn f)) (eqb (length r) recordBytes)))
+fits? f a r = both (arenaAllowed? (lengthIn f)) (both (eqb (length f) (imageBytes (versionIn f) (lengthIn f))) (both (eqb (length a) (lengthIn f)) (eqb (length r) recordBytes)))
+
+-- ---- what version 1 lacks: each cached chunk gets the key, where the heap is otherwise sound
+abbrev pub keyed : Heap → List ℕ → List ℕ
+keyed h a = bytes 8 (apply (keysOf h) (arenaWords a))
 
 -- ---- reading: arena bytes, record bytes and answer. Number 6 for a wrong mark or fewer than 5 bytes, 7 for a version not known, 1 for a length, each writing
--- nothing; else the heap as it was written, sound or not, with its audit's answer
+-- nothing; else the heap as it was written, sound or not, with its audit's answer by the rules of its version; an older one that is sound gets what it lacks
 pub data AfterReading : Type 0 where
   afterReading : List ℕ → List ℕ → Reading → AfterReading
 
+abbrev pub heapRead : ℕ → List ℕ → List ℕ → AfterReading
+heapRead v a r = elim (both (ltb v 2) (sound? (auditBy v (arenaWords a) (wordsOf r)))) [
+  | true ↦ afterReading (keyed (heapIn a r) a) r (Read (auditBy v (arenaWords a) (wordsOf r)))
+  | false ↦ afterReading a r (Read (auditBy v (arenaWords a) (wordsOf r)))
+]
+
 unfoldable pub readCall : List ℕ → List ℕ → List ℕ → AfterReading
 readCall f a r = elim (marked? f) [
-  | true ↦ elim (eqb (versionIn f) version) [
+  | true ↦ elim (known? (versionIn f)) [
     | true ↦ elim (fits? f a r) [
-      | true ↦ afterReading (arenaIn f) (recordIn f) (Read (auditCall (arenaIn f) (recordIn f)))
+      | true ↦ heapRead (versionIn f) (arenaIn f) (recordIn f)
       | false ↦ afterReading a r WrongLength
     ]
     | false ↦ afterReading a r NoVersion

@@ -3,3 +3,4 @@ pub mod Ways
 pub mod Parts
 pub mod Audits
 pub mod Inverse
+pub mod Older

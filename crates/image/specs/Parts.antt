@@ -1,22 +1,38 @@
 -- The parts of a file: those of an image are what it was made of, a file that is read is the image of its parts, and these are what was read. Assumes nothing.
 use mathlib.Core.Path.{_≡_, refl, sym, ap, _∙_}
-use mathlib.Core.Bool.{true}
-use mathlib.Core.List.{List, _∷_, _++_}
-use Prim.Native.Nat.{ℕ, zero, suc, _+_, _*_, _/_, _%_, _≤_, _<_}
+use mathlib.Core.Bool.{Bool, true, false}
+use mathlib.Core.List.{List, _∷_, _++_, append-nil}
+use mathlib.Core.Logic.{_⊎_, inl, inr, ⊎-elim}
+use Prim.Native.Nat.{ℕ, zero, suc, _+_, _-_, _*_, _/_, _%_, _≤_, _<_}
 use native.Mathlib.Nat.{add-suc, add-zero}
 use native.Mathlib.Omega.{arith}
 use lib.Dec.{eqb, leb}
-use lib.ListN.{length, getD, drop, length-take, length-drop, take-append-drop}
+use lib.ListN.{length, getD, take, drop, replicate, take-append-drop}
 use lib.Seq.{drop-cons, drop-drop, take-at, drop-at}
 use borrow.Author.Tests.{eqb-true, le-leb}
 use Rattle.le.specs.Number.{numberFrom, number, digits}
-use Rattle.sizes.specs.Limits.{recordBytes}
-use Rattle.machine.specs.Calls.{arenaAllowed?, shape?, auditCall}
+use Rattle.le.specs.WordsLaws.{length-bytes}
+use Rattle.le.specs.Arena.{arenaWords}
+use Rattle.le.specs.ArenaLaws.{length-arenaWords}
+use Rattle.sizes.specs.Limits.{recordBytes, newest}
+use Rattle.machine.specs.Writes.{apply}
+use Rattle.machine.specs.Audit.{sound?, auditBy}
+use Rattle.machine.specs.Calls.{arenaAllowed?, shape?, wordsOf, heapIn}
 use Rattle.machine.specs.declared.Audited.{Audited}
-use Rattle.calls.specs.Ways.{shape-true, shape-allowed}
+use Rattle.sound.specs.Tiles.{lt-or-le}
+use Rattle.sound.specs.Frames.{apply-length}
+use Rattle.calls.specs.Ways.{allowed-true, shape-true, shape-allowed}
+use Rattle.image_keys.specs.Keys.{keysOf}
 use Rattle.image.specs.declared.Reading.the-variants.{Read}
-use Rattle.image.specs.Image.{version, image, lengthAt, marked?, versionIn, lengthIn, recordIn, arenaIn, afterReading, readCall}
-use Rattle.image.specs.Ways.{clash, both-yes, Fits, marked-long, fits-true, read-cases}
+use Rattle.image.specs.Image.{known?, recordBytesBy, image, lengthAt, recordAt, imageBytes, marked?, versionIn, lengthIn, recordIn, arenaIn, keyed, afterReading, readCall}
+use Rattle.image.specs.Ways.{clash, never, both-yes, Fits, marked-long, fits-true, parts-long, heap-cases, read-cases}
+
+-- ---- of a file of the newest version
+pub record-new : (f : List ℕ) → versionIn f ≡ newest → recordIn f ≡ take 1580 (drop 9 f)
+record-new f v = ap (λ (n : ℕ). take (recordBytesBy n) (drop recordAt f) ++ replicate (recordBytes - recordBytesBy n) 0) v ∙ append-nil (take 1580 (drop 9 f))
+
+pub arena-new : (f : List ℕ) → versionIn f ≡ newest → arenaIn f ≡ drop 1589 f
+arena-new f v = ap (λ (n : ℕ). drop (recordAt + recordBytesBy n) f) v
 
 -- ---- of an image
 module _ (a r : List ℕ) where
@@ -24,7 +40,7 @@ module _ (a r : List ℕ) where
   unfolding image digits
   image-marked = rw (le-leb 5 (length (image a r)) (omega arith))
 
-  pub image-version : versionIn (image a r) ≡ version
+  pub image-version : versionIn (image a r) ≡ newest
   unfolding image digits number numberFrom
   image-version = refl
 
@@ -34,11 +50,11 @@ module _ (a r : List ℕ) where
 
   pub image-record : length r ≡ recordBytes → recordIn (image a r) ≡ r
   unfolding image digits
-  image-record h = take-at r a recordBytes h
+  image-record h = record-new (image a r) image-version ∙ take-at r a recordBytes h
 
   pub image-arena : length r ≡ recordBytes → arenaIn (image a r) ≡ a
   unfolding image digits
-  image-arena h = drop-at r a recordBytes h
+  image-arena h = arena-new (image a r) image-version ∙ drop-at r a recordBytes h
 
 -- ---- the bytes of the number at a place, and what stands behind it, are what stands there
 digits-from : (n : ℕ) (l : List ℕ) (at k : ℕ) → at + k + n ≤ length l → ((i : ℕ) → getD l i 0 < 256)
@@ -69,34 +85,68 @@ marked-starts f e =
     let f2 : drop 2 f ≡ getD f 2 0 ∷ drop 3 f = drop-cons f 2 0 (omega arith) in
     cc (eqb-true (getD f 0 0) 72 (q .0), eqb-true (getD f 1 0) 80 (s .0), eqb-true (getD f 2 0) 73 (s .1))
 
-pub file-image : (f a r : List ℕ) → ((i : ℕ) → getD f i 0 < 256) → marked? f ≡ true → versionIn f ≡ version → Fits f a r → image (arenaIn f) (recordIn f) ≡ f
+pub file-image : (f a r : List ℕ) → ((i : ℕ) → getD f i 0 < 256) → marked? f ≡ true → versionIn f ≡ newest → Fits f a r → image (arenaIn f) (recordIn f) ≡ f
 unfolding image
 file-image f a r small e v F =
-    let l : 1581 ≤ length f = omega (arith, F .file) in
-    let heap : recordIn f ++ arenaIn f ≡ drop 9 f = ap (λ (t : List ℕ). recordIn f ++ t) (sym (drop-drop 1572 9 f)) ∙ take-append-drop 1572 (drop 9 f) in
-    let long : length (arenaIn f) ≡ lengthIn f = omega (arith, F .file, F .arena, length-drop 1581 f) in
-    let known : digits 2 version ++ drop 5 f ≡ drop 3 f = ap (λ (n : ℕ). digits 2 n ++ drop 5 f) (sym v) ∙ digits-at 2 f 3 (omega arith) small in
+    let l : length f ≡ 1589 + length a = F .file ∙ ap (λ (n : ℕ). imageBytes n (length a)) v ∙ omega arith in
+    let heap : recordIn f ++ arenaIn f ≡ drop 9 f =
+    ap (λ (t : List ℕ). t ++ arenaIn f) (record-new f v) ∙ ap (λ (t : List ℕ). take 1580 (drop 9 f) ++ t) (arena-new f v ∙ sym (drop-drop 1580 9 f)) ∙ take-append-drop 1580 (drop 9 f) in
+    let long : length (arenaIn f) ≡ lengthIn f = parts-long f a r F .0 ∙ sym (F .arena) in
+    let known : digits 2 newest ++ drop 5 f ≡ drop 3 f = ap (λ (n : ℕ). digits 2 n ++ drop 5 f) (sym v) ∙ digits-at 2 f 3 (omega arith) small in
     rw (heap, long, digits-at 4 f 5 (omega arith) small, known) (sym (marked-starts f e))
 
--- ---- what was read from a file: the file is good, arena and record stand in it, and the answer is their audit's
+-- ---- what was read from a file: the file is good, the record stands in it, and the answer is the audit's by its version; the arena stands in it too, but that an
+-- older heap that is sound got its keys
 pub record TakenFrom (f a r b q : List ℕ) (x : Audited) : Type 0 where
   pub mark : marked? f ≡ true
-  pub known : versionIn f ≡ version
+  pub known : known? (versionIn f) ≡ true
   pub fits : Fits f a r
-  pub arena : b ≡ arenaIn f
   pub control : q ≡ recordIn f
-  pub audit : x ≡ auditCall b q
+  pub audit : x ≡ auditBy (versionIn f) (arenaWords (arenaIn f)) (wordsOf (recordIn f))
+  pub arena : (2 ≤ versionIn f) ⊎ (sound? x ≡ false) → b ≡ arenaIn f
+  pub keys : versionIn f < 2 → sound? x ≡ true → b ≡ keyed (heapIn (arenaIn f) (recordIn f)) (arenaIn f)
 
 pub taken : (f a r b q : List ℕ) (x : Audited) → readCall f a r ≡ afterReading b q (Read x) → TakenFrom f a r b q x
 taken f a r b q x = read-cases (λ y. y ≡ afterReading b q (Read x) → TakenFrom f a r b q x) f a r
     (λ m e. clash (cc))
     (λ m v e. clash (cc))
     (λ m v t e. clash (cc))
-    (λ m v t e. record { mark = m; known = v; fits = fits-true f a r t; arena = cc; control = cc; audit = cc })
+    (λ m v t. heap-cases (λ y. y ≡ afterReading b q (Read x) → TakenFrom f a r b q x) (versionIn f) (arenaIn f) (recordIn f)
+    (λ d e. record {
+      mark = m;
+      known = v;
+      fits = fits-true f a r t;
+      control = cc;
+      audit = cc;
+      arena = λ _. cc;
+      keys = λ l s. absurd (⊎-elim (λ n. omega arith) (λ n. let z : x ≡ auditBy (versionIn f) (arenaWords (arenaIn f)) (wordsOf (recordIn f)) = cc in never (sym n ∙ ap sound? (sym z) ∙ s)) d);
+    })
+    (λ l s e. record {
+      mark = m;
+      known = v;
+      fits = fits-true f a r t;
+      control = cc;
+      audit = cc;
+      arena = λ d. absurd (⊎-elim (λ n. omega arith) (λ n. let z : x ≡ auditBy (versionIn f) (arenaWords (arenaIn f)) (wordsOf (recordIn f)) = cc in never (sym n ∙ ap sound? z ∙ s)) d);
+      keys = λ _ _. cc;
+    }))
 
 -- what a good file says of the lengths of what was read
 pub taken-shape : (f a r b q : List ℕ) (x : Audited) → TakenFrom f a r b q x → (shape? b q ≡ true) × (length b ≡ length a)
 taken-shape f a r b q x T =
-    let k : length b ≡ length a = omega (arith, ap length (T .arena), length-drop 1581 f, T .fits .file) in
-    let l : length q ≡ recordBytes = omega (arith, ap length (T .control), length-take 1572 (drop 9 f), length-drop 9 f, T .fits .file) in
-    (shape-true b q l (ap arenaAllowed? k ∙ shape-allowed a r (T .fits .shape)), k)
+    let L = parts-long f a r (T .fits) in
+    let ok = allowed-true (length a) (shape-allowed a r (T .fits .shape)) in
+    let k : length b ≡ length a = ⊎-elim
+    (λ l. by l (sound? x) refl)
+    (λ l. ap length (T .arena (inl l)) ∙ L .0)
+    (lt-or-le (versionIn f) 2) in
+    (shape-true b q (ap length (T .control) ∙ L .1) (ap arenaAllowed? k ∙ shape-allowed a r (T .fits .shape)), k)
+  where
+    by : versionIn f < 2 → (t : Bool) → sound? x ≡ t → length b ≡ length a
+    by l true s =
+        let L = parts-long f a r (T .fits) in
+        let ok = allowed-true (length a) (shape-allowed a r (T .fits .shape)) in
+        let h = heapIn (arenaIn f) (recordIn f) in
+        ap length (T .keys l s) ∙ length-bytes 8 (apply (keysOf h) (arenaWords (arenaIn f)))
+        ∙ omega (arith, apply-length (keysOf h) (arenaWords (arenaIn f)), length-arenaWords (arenaIn f), L .0, ok .0)
+    by l false s = ap length (T .arena (inr s)) ∙ parts-long f a r (T .fits) .0

@@ -1,24 +1,27 @@
 -- What the tests of a file say, and each way through writing and reading: one lemma for each refusal, and one for the call that goes through. Assumes nothing.
 use mathlib.Core.Path.{_≡_, refl, sym, ap, _∙_, subst}
 use mathlib.Core.Bool.{Bool, true, false}
-use mathlib.Core.List.{List, _++_, append-assoc}
-use Prim.Native.Nat.{ℕ, _+_, _-_, _≤_}
+use mathlib.Core.List.{List, _∷_, _++_, append-assoc}
+use mathlib.Core.Logic.{_⊎_, inl, inr, ⊎-elim}
+use Prim.Native.Nat.{ℕ, zero, suc, _+_, _-_, _≤_, _<_}
 use native.Mathlib.Omega.{arith}
-use lib.Dec.{eqb, leb}
-use lib.ListN.{length, take, drop, length-append, length-take, length-drop}
+use lib.Dec.{eqb, ltb, leb}
+use lib.ListN.{length, take, drop, replicate, length-append, length-take, length-drop, length-replicate}
 use lib.Seq.{take-all}
-use borrow.Author.Tests.{eq-eqb, ne-eqb, eqb-true, eqb-false, leb-true}
+use borrow.Author.Tests.{eq-eqb, ne-eqb, eqb-true, leb-true, lt-ltb, le-ltb}
 use Rattle.le.specs.Number.{digits}
 use Rattle.le.specs.WordsLaws.{length-digits}
-use Rattle.sizes.specs.Limits.{recordBytes}
+use Rattle.le.specs.Arena.{arenaWords}
+use Rattle.sizes.specs.Limits.{recordBytes, newest}
 use Rattle.machine.specs.Lists.{both}
-use Rattle.machine.specs.Calls.{shape?, arenaAllowed?, auditCall}
-use Rattle.machine.specs.declared.Audited.{Audited}
+use Rattle.machine.specs.Audit.{sound?, auditBy}
+use Rattle.machine.specs.Calls.{shape?, arenaAllowed?, wordsOf, heapIn}
 use Rattle.machine.specs.declared.Answer.the-variants.{Done, Refused}
 use Rattle.machine.specs.declared.Refusal.the-variants as R
+use Rattle.sound.specs.Tiles.{lt-or-le}
 use Rattle.calls.specs.Ways.{shape-true, shape-long, shape-allowed}
 use Rattle.image.specs.declared.Reading.the-variants.{NoMark, NoVersion, WrongLength, Read}
-use Rattle.image.specs.Image.{mark, version, image, imageBytes, lengthAt, Written, written, writeCall, marked?, versionIn, lengthIn, recordIn, arenaIn, fits?, AfterReading, afterReading, readCall}
+use Rattle.image.specs.Image.{mark, known?, recordBytesBy, image, imageBytes, lengthAt, Written, written, writeCall, marked?, versionIn, lengthIn, recordIn, arenaIn, fits?, keyed, AfterReading, afterReading, heapRead, readCall}
 
 -- ---- tests
 pub clash : {B : Type 0} → _≡_ {A = ℕ} 0 1 → B
@@ -47,19 +50,19 @@ marked-long f e = leb-true 5 (length f) (both-yes (leb lengthAt (length f)) _ e 
 -- ---- what it is that a file fits the lent buffers
 pub record Fits (f a r : List ℕ) : Type 0 where
   pub shape : shape? a r ≡ true
-  pub file : length f ≡ imageBytes (length a)
+  pub file : length f ≡ imageBytes (versionIn f) (length a)
   pub arena : lengthIn f ≡ length a
 
 module _ (f a r : List ℕ) where
   pub fits-true : fits? f a r ≡ true → Fits f a r
   fits-true e =
       let p = both-yes (arenaAllowed? (lengthIn f)) _ e in
-      let q = both-yes (eqb (length f) (imageBytes (lengthIn f))) _ (p .1) in
+      let q = both-yes (eqb (length f) (imageBytes (versionIn f) (lengthIn f))) _ (p .1) in
       let s = both-yes (eqb (length a) (lengthIn f)) _ (q .1) in
       let n : lengthIn f ≡ length a = sym (eqb-true (length a) (lengthIn f) (s .0)) in
       record {
         shape = shape-true a r (eqb-true (length r) recordBytes (s .1)) (ap arenaAllowed? (sym n) ∙ p .0);
-        file = eqb-true (length f) (imageBytes (lengthIn f)) (q .0) ∙ ap imageBytes n;
+        file = eqb-true (length f) (imageBytes (versionIn f) (lengthIn f)) (q .0) ∙ ap (imageBytes (versionIn f)) n;
         arena = n;
       }
 
@@ -67,14 +70,14 @@ module _ (f a r : List ℕ) where
   true-fits F =
       let n : lengthIn f ≡ length a = F .arena in
       yes-both (arenaAllowed? (lengthIn f)) _ (ap arenaAllowed? n ∙ shape-allowed a r (F .shape))
-      (yes-both (eqb (length f) (imageBytes (lengthIn f))) _ (eq-eqb (length f) (imageBytes (lengthIn f)) (F .file ∙ ap imageBytes (sym n)))
+      (yes-both (eqb (length f) (imageBytes (versionIn f) (lengthIn f))) _ (eq-eqb (length f) (imageBytes (versionIn f) (lengthIn f)) (F .file ∙ ap (imageBytes (versionIn f)) (sym n)))
       (yes-both (eqb (length a) (lengthIn f)) _ (eq-eqb (length a) (lengthIn f) (sym n)) (eq-eqb (length r) recordBytes (shape-long a r (F .shape)))))
 
   pub not-fits : (Fits f a r → ⊥) → false ≡ fits? f a r
   not-fits h = same-test false (fits? f a r) never (λ e. absurd (h (fits-true e)))
 
   -- the test of the length in the file, after the others
-  pub fits-last : shape? a r ≡ true → length f ≡ imageBytes (length a) → eqb (lengthIn f) (length a) ≡ fits? f a r
+  pub fits-last : shape? a r ≡ true → length f ≡ imageBytes (versionIn f) (length a) → eqb (lengthIn f) (length a) ≡ fits? f a r
   fits-last s e =
       same-test (eqb (lengthIn f) (length a)) (fits? f a r)
       (λ q. true-fits (record { shape = s; file = e; arena = eqb-true (lengthIn f) (length a) q }))
@@ -98,20 +101,20 @@ module _ (a r f : List ℕ) where
   unfolding writeCall
   write-shape e = rw (e, writeCall)
 
-  pub write-length : (length f ≡ imageBytes (length a) → ⊥) → written f (Refused R.Shape) ≡ writeCall a r f
+  pub write-length : (length f ≡ imageBytes newest (length a) → ⊥) → written f (Refused R.Shape) ≡ writeCall a r f
   unfolding writeCall
   write-length h = by (shape? a r) refl
     where
       by : (t : Bool) → shape? a r ≡ t → written f (Refused R.Shape) ≡ writeCall a r f
-      by true e = rw (e, ne-eqb (length f) (imageBytes (length a)) h, writeCall)
+      by true e = rw (e, ne-eqb (length f) (imageBytes newest (length a)) h, writeCall)
       by false e = write-shape e
 
-  pub write-through : shape? a r ≡ true → length f ≡ imageBytes (length a) → written (image a r) Done ≡ writeCall a r f
+  pub write-through : shape? a r ≡ true → length f ≡ imageBytes newest (length a) → written (image a r) Done ≡ writeCall a r f
   unfolding writeCall
-  write-through s e = rw (s, eq-eqb (length f) (imageBytes (length a)) e, writeCall)
+  write-through s e = rw (s, eq-eqb (length f) (imageBytes newest (length a)) e, writeCall)
 
   -- g, as long as f, begins with the image, and so is the image
-  pub write-done : (n : ℕ) (g : List ℕ) → shape? a r ≡ true → length f ≡ imageBytes (length a) → length g ≡ length f → take n g ≡ image a r
+  pub write-done : (n : ℕ) (g : List ℕ) → shape? a r ≡ true → length f ≡ imageBytes newest (length a) → length g ≡ length f → take n g ≡ image a r
       → written g Done ≡ writeCall a r f
   write-done n g s e k q = rw (whole n g (image a r) (omega (arith, length-image a r, shape-long a r s)) q) (write-through s e)
 
@@ -119,10 +122,67 @@ module _ (a r f : List ℕ) where
 in-a-row : (m d e r a : List ℕ) → (((m ++ d) ++ e) ++ r) ++ a ≡ m ++ (d ++ (e ++ (r ++ a)))
 in-a-row m d e r a = simp append-assoc
 
-pub parts-image : (a r : List ℕ) {v n x y z u w : List ℕ} → v ≡ digits 2 version → n ≡ digits 4 (length a) → x ≡ mark → y ≡ x ++ v → z ≡ y ++ n → u ≡ z ++ r
+pub parts-image : (a r : List ℕ) {v n x y z u w : List ℕ} → v ≡ digits 2 newest → n ≡ digits 4 (length a) → x ≡ mark → y ≡ x ++ v → z ≡ y ++ n → u ≡ z ++ r
     → w ≡ u ++ a → w ≡ image a r
 unfolding image
-parts-image a r d e p q s t k = k ∙ rw (t, s, q, p, d, e) (in-a-row mark (digits 2 version) (digits 4 (length a)) r a)
+parts-image a r d e p q s t k = k ∙ rw (t, s, q, p, d, e) (in-a-row mark (digits 2 newest) (digits 4 (length a)) r a)
+
+-- ---- the record of a file's version
+pub by-old : (v : ℕ) → v < 2 → recordBytesBy v ≡ 1572
+by-old v l = rw (lt-ltb v 2 l, recordBytesBy)
+
+pub by-new : (v : ℕ) → 2 ≤ v → recordBytesBy v ≡ 1580
+by-new v l = rw (le-ltb v 2 l, recordBytesBy)
+
+pub by-most : (v : ℕ) → (1572 ≤ recordBytesBy v) × (recordBytesBy v ≤ 1580)
+by-most v = ⊎-elim (λ l. let e = by-old v l in (omega arith, omega arith)) (λ l. let e = by-new v l in (omega arith, omega arith)) (lt-or-le v 2)
+
+-- a record that is completed with zeros: z is put behind the part p
+pub completed : (p z q u : List ℕ) (n m : ℕ) → length q ≡ recordBytes → length p ≤ recordBytes → n ≡ length p → m ≡ n + length z → z ≡ replicate (recordBytes - length p) 0
+    → take n u ≡ p → take m q ≡ take n u ++ z → q ≡ p ++ replicate (recordBytes - length p) 0
+completed p z q u n m l k en em ez eu e =
+    sym (take-all m q (omega (arith, l, em, en, ap length ez ∙ length-replicate {A = ℕ} (recordBytes - length p) 0))) ∙ e ∙ rw (eu, ez)
+
+pub zeros-taken : (n m : ℕ) → n ≤ m → take n (replicate m 0) ≡ replicate {A = ℕ} n 0
+zeros-taken zero m l = refl
+zeros-taken (suc n) zero l = absurd (omega arith)
+zeros-taken (suc n) (suc m) l = ap (λ (t : List ℕ). 0 ∷ t) (zeros-taken n m (omega arith))
+
+-- ---- a version that is known is 1 or 2
+pub known-true : (v : ℕ) → known? v ≡ true → (1 ≤ v) × (v ≤ 2)
+known-true v e = let p = both-yes (leb 1 v) (leb v newest) e in (leb-true 1 v (p .0), leb-true v newest (p .1))
+
+-- ---- what is made of a heap that was read
+module _ (v : ℕ) (a r : List ℕ) where
+  pub heap-new : 2 ≤ v → afterReading a r (Read (auditBy v (arenaWords a) (wordsOf r))) ≡ heapRead v a r
+  heap-new l = rw (le-ltb v 2 l, heapRead)
+
+  pub heap-unsound : sound? (auditBy v (arenaWords a) (wordsOf r)) ≡ false → afterReading a r (Read (auditBy v (arenaWords a) (wordsOf r))) ≡ heapRead v a r
+  heap-unsound e = ap (λ (t : Bool). elim t [
+    | true ↦ afterReading (keyed (heapIn a r) a) r (Read (auditBy v (arenaWords a) (wordsOf r)))
+    | false ↦ afterReading a r (Read (auditBy v (arenaWords a) (wordsOf r)))
+  ]) (sym (ap (both (ltb v 2)) e ∙ never-both (ltb v 2)))
+    where
+      never-both : (t : Bool) → both t false ≡ false
+      never-both true = refl
+      never-both false = refl
+
+  pub heap-keyed : v < 2 → sound? (auditBy v (arenaWords a) (wordsOf r)) ≡ true → afterReading (keyed (heapIn a r) a) r (Read (auditBy v (arenaWords a) (wordsOf r))) ≡ heapRead v a r
+  heap-keyed l e = rw (lt-ltb v 2 l, heapRead) (rw e)
+
+-- what holds of each way to make it holds of what is made
+pub heap-cases : (P : AfterReading → Type 0) (v : ℕ) (a r : List ℕ)
+    → ((2 ≤ v) ⊎ (sound? (auditBy v (arenaWords a) (wordsOf r)) ≡ false) → P (afterReading a r (Read (auditBy v (arenaWords a) (wordsOf r)))))
+    → (v < 2 → sound? (auditBy v (arenaWords a) (wordsOf r)) ≡ true → P (afterReading (keyed (heapIn a r) a) r (Read (auditBy v (arenaWords a) (wordsOf r)))))
+    → P (heapRead v a r)
+heap-cases P v a r same keys = ⊎-elim
+    (λ l. by l (sound? (auditBy v (arenaWords a) (wordsOf r))) refl)
+    (λ l. subst P (heap-new v a r l) (same (inl l)))
+    (lt-or-le v 2)
+  where
+    by : v < 2 → (t : Bool) → sound? (auditBy v (arenaWords a) (wordsOf r)) ≡ t → P (heapRead v a r)
+    by l true e = subst P (heap-keyed v a r l e) (keys l e)
+    by l false e = subst P (heap-unsound v a r e) (same (inr e))
 
 -- ---- reading
 module _ (f a r : List ℕ) where
@@ -130,52 +190,71 @@ module _ (f a r : List ℕ) where
   unfolding readCall
   read-no-mark e = rw (e, readCall)
 
-  pub read-no-version : marked? f ≡ true → (versionIn f ≡ version → ⊥) → afterReading a r NoVersion ≡ readCall f a r
+  pub read-no-version : marked? f ≡ true → known? (versionIn f) ≡ false → afterReading a r NoVersion ≡ readCall f a r
   unfolding readCall
-  read-no-version e v = rw (e, readCall) (rw (ne-eqb (versionIn f) version v))
+  read-no-version e v = rw (e, readCall) (rw v)
 
-  pub read-wrong-length : marked? f ≡ true → versionIn f ≡ version → fits? f a r ≡ false → afterReading a r WrongLength ≡ readCall f a r
+  pub read-wrong-length : marked? f ≡ true → known? (versionIn f) ≡ true → fits? f a r ≡ false → afterReading a r WrongLength ≡ readCall f a r
   unfolding readCall
-  read-wrong-length e v t = rw (e, readCall) (rw (eq-eqb (versionIn f) version v, t))
+  read-wrong-length e v t = rw (e, readCall) (rw (v, t))
 
-  pub read-through : marked? f ≡ true → versionIn f ≡ version → fits? f a r ≡ true
-      → afterReading (arenaIn f) (recordIn f) (Read (auditCall (arenaIn f) (recordIn f))) ≡ readCall f a r
+  pub read-through : marked? f ≡ true → known? (versionIn f) ≡ true → fits? f a r ≡ true → heapRead (versionIn f) (arenaIn f) (recordIn f) ≡ readCall f a r
   unfolding readCall
-  read-through e v t = rw (e, readCall) (rw (eq-eqb (versionIn f) version v, t))
+  read-through e v t = rw (e, readCall) (rw (v, t))
 
-  -- b and q, as long as a and r, begin with the file's arena and record, and so are those
-  pub read-done : (n m : ℕ) (b q : List ℕ) (x : Audited) → marked? f ≡ true → versionIn f ≡ version → fits? f a r ≡ true → length b ≡ length a
-      → take n b ≡ arenaIn f → length q ≡ length r → take m q ≡ recordIn f → x ≡ auditCall b q → afterReading b q (Read x) ≡ readCall f a r
-  read-done n m b q x e v t k i l j z =
-      let F : Fits f a r = fits-true f a r t in
-      let long : length r ≡ recordBytes = shape-long a r (F .shape) in
-      let i′ : b ≡ arenaIn f = whole n b (arenaIn f) (omega (arith, F .file, length-drop 1581 f)) i in
-      let j′ : q ≡ recordIn f = whole m q (recordIn f) (omega (arith, F .file, long, length-take recordBytes (drop 9 f), length-drop 9 f)) j in
-      rw (z, i′, j′) (read-through e v t)
+  -- the parts of a file that fits are as long as the lent buffers
+  pub parts-long : Fits f a r → (length (arenaIn f) ≡ length a) × (length (recordIn f) ≡ recordBytes)
+  parts-long F =
+      let v : ℕ = recordBytesBy (versionIn f) in
+      let m = by-most (versionIn f) in (
+        omega (arith, F .file, length-drop (9 + v) f),
+        length-append (take v (drop 9 f)) (replicate (recordBytes - v) 0)
+            ∙ omega (arith, F .file, length-take v (drop 9 f), length-drop 9 f, length-replicate {A = ℕ} (recordBytes - v) 0),
+      )
+
+  -- b, as long as a, begins with the file's arena, and so is that; q is its record
+  pub read-done : (v n : ℕ) (b q : List ℕ) {y : AfterReading} → v ≡ versionIn f → marked? f ≡ true → known? (versionIn f) ≡ true → Fits f a r → length b ≡ length a
+      → take n b ≡ arenaIn f → q ≡ recordIn f → y ≡ heapRead v b q → y ≡ readCall f a r
+  read-done v n b q w e t F k i j z =
+      let i′ : b ≡ arenaIn f = whole n b (arenaIn f) (k ∙ sym (parts-long F .0)) i in
+      z ∙ ap (λ (v : ℕ). heapRead v b q) w ∙ ap (λ (b : List ℕ). heapRead (versionIn f) b q) i′ ∙ ap (heapRead (versionIn f) (arenaIn f)) j ∙ read-through e t (true-fits f a r F)
+
+-- the record as it is put: n bytes of the file, and zeros
+pub record-put : (f : List ℕ) (n k : ℕ) → n ≡ recordBytesBy (versionIn f) → 9 + n ≤ length f → k ≡ n
+    → take k (drop 9 f) ++ replicate (recordBytes - length (take k (drop 9 f))) 0 ≡ recordIn f
+record-put f n k e l h =
+    let t : length (take k (drop 9 f)) ≡ n = omega (arith, length-take k (drop 9 f), length-drop 9 f) in
+    ap (λ (i : ℕ). take k (drop 9 f) ++ replicate (recordBytes - i) 0) t
+    ∙ ap (λ (i : ℕ). take i (drop 9 f) ++ replicate (recordBytes - n) 0) h
+    ∙ ap (λ (i : ℕ). take i (drop 9 f) ++ replicate (recordBytes - i) 0) e
+
+-- buffers of the same lengths have the same shape
+pub same-shape : (m n m₀ n₀ : ℕ) → m ≡ m₀ → n ≡ n₀ → both (eqb n₀ recordBytes) (arenaAllowed? m₀) ≡ true → both (eqb n recordBytes) (arenaAllowed? m) ≡ true
+same-shape m n m₀ n₀ e f s = rw (e, f) s
 
 -- ---- what holds of each way through a call holds of the call
 pub write-cases : (P : Written → Type 0) (a r f : List ℕ)
-    → (((shape? a r ≡ true) × (length f ≡ imageBytes (length a)) → ⊥) → P (written f (Refused R.Shape)))
-    → (shape? a r ≡ true → length f ≡ imageBytes (length a) → P (written (image a r) Done))
+    → (((shape? a r ≡ true) × (length f ≡ imageBytes newest (length a)) → ⊥) → P (written f (Refused R.Shape)))
+    → (shape? a r ≡ true → length f ≡ imageBytes newest (length a) → P (written (image a r) Done))
     → P (writeCall a r f)
 unfolding writeCall
-write-cases P a r f one ok = by (both (shape? a r) (eqb (length f) (imageBytes (length a)))) refl
+write-cases P a r f one ok = by (both (shape? a r) (eqb (length f) (imageBytes newest (length a)))) refl
   where
-    by : (t : Bool) → both (shape? a r) (eqb (length f) (imageBytes (length a))) ≡ t
+    by : (t : Bool) → both (shape? a r) (eqb (length f) (imageBytes newest (length a))) ≡ t
         → P (elim t [ true ↦ written (image a r) Done | false ↦ written f (Refused R.Shape) ])
-    by true e = let p = both-yes (shape? a r) (eqb (length f) (imageBytes (length a))) e in ok (p .0) (eqb-true (length f) (imageBytes (length a)) (p .1))
-    by false e = one (λ p. never (sym e ∙ yes-both (shape? a r) _ (p .0) (eq-eqb (length f) (imageBytes (length a)) (p .1))))
+    by true e = let p = both-yes (shape? a r) (eqb (length f) (imageBytes newest (length a))) e in ok (p .0) (eqb-true (length f) (imageBytes newest (length a)) (p .1))
+    by false e = one (λ p. never (sym e ∙ yes-both (shape? a r) _ (p .0) (eq-eqb (length f) (imageBytes newest (length a)) (p .1))))
 
 pub read-cases : (P : AfterReading → Type 0) (f a r : List ℕ)
     → (marked? f ≡ false → P (afterReading a r NoMark))
-    → (marked? f ≡ true → (versionIn f ≡ version → ⊥) → P (afterReading a r NoVersion))
-    → (marked? f ≡ true → versionIn f ≡ version → fits? f a r ≡ false → P (afterReading a r WrongLength))
-    → (marked? f ≡ true → versionIn f ≡ version → fits? f a r ≡ true → P (afterReading (arenaIn f) (recordIn f) (Read (auditCall (arenaIn f) (recordIn f)))))
+    → (marked? f ≡ true → known? (versionIn f) ≡ false → P (afterReading a r NoVersion))
+    → (marked? f ≡ true → known? (versionIn f) ≡ true → fits? f a r ≡ false → P (afterReading a r WrongLength))
+    → (marked? f ≡ true → known? (versionIn f) ≡ true → fits? f a r ≡ true → P (heapRead (versionIn f) (arenaIn f) (recordIn f)))
     → P (readCall f a r)
-read-cases P f a r six seven one ok = by (marked? f) (eqb (versionIn f) version) (fits? f a r) refl refl refl
+read-cases P f a r six seven one ok = by (marked? f) (known? (versionIn f)) (fits? f a r) refl refl refl
   where
-    by : (m v t : Bool) → marked? f ≡ m → eqb (versionIn f) version ≡ v → fits? f a r ≡ t → P (readCall f a r)
+    by : (m v t : Bool) → marked? f ≡ m → known? (versionIn f) ≡ v → fits? f a r ≡ t → P (readCall f a r)
     by false v t e q s = subst P (read-no-mark f a r e) (six e)
-    by true false t e q s = let d : versionIn f ≡ version → ⊥ = eqb-false (versionIn f) version q in subst P (read-no-version f a r e d) (seven e d)
-    by true true false e q s = let d : versionIn f ≡ version = eqb-true (versionIn f) version q in subst P (read-wrong-length f a r e d s) (one e d s)
-    by true true true e q s = let d : versionIn f ≡ version = eqb-true (versionIn f) version q in subst P (read-through f a r e d s) (ok e d s)
+    by true false t e q s = subst P (read-no-version f a r e q) (seven e q)
+    by true true false e q s = subst P (read-wrong-length f a r e q s) (one e q s)
+    by true true true e q s = subst P (read-through f a r e q s) (ok e q s)

@@ -1,14 +1,18 @@
-// Reading: numbers 6, 7 and 1 before the first write; then the record and the arena as they stand in the file, and their audit.
+// Reading: numbers 6, 7 and 1 before the first write; then the record and the arena as they stand in the file, and their audit by the rules of its version.
 ghost use mathlib.Core.Path.{_≡_};
-ghost use Prim.Native.Nat.{_≤_};
-ghost use lib.ListN.{length};
-ghost use Rattle.image.specs.Image.{afterReading, readCall, marked?, versionIn, fits?};
-use crate::ARENA_AT;
+ghost use mathlib.Core.Bool.{true};
+ghost use mathlib.Core.List.{_++_};
+ghost use Prim.Native.Nat.{_-_, _≤_};
+ghost use lib.ListN.{length, replicate};
+ghost use Rattle.machine.specs.Calls.{shape?};
+ghost use Rattle.image.specs.Image.{known?, afterReading, heapRead, readCall, marked?, versionIn, fits?};
 use crate::LENGTH_AT;
 use crate::RECORD_AT;
 use crate::Reading;
 use crate::VERSION;
 use crate::VERSION_AT;
+use crate::record_bytes;
+use sizes::RECORD_BYTES;
 use text::put_bytes;
 
 fn marked(file: &[u8]) -> bool
@@ -26,24 +30,63 @@ fn marked(file: &[u8]) -> bool
     file[2] == b'I'
 }
 
-fn version_in(file: &[u8]) -> u16
+pub fn version_in(file: &[u8]) -> u16
     requires { ⌜ 5 ≤ length (now file) ⌝ }
     ensures { λ v. ⌜ v ≡ versionIn (now (file .entry)) ⌝ }
 {
     (file[VERSION_AT] as u16) + 256 * (file[VERSION_AT + 1] as u16)
 }
 
-// Whether the length in the file is allowed, the file's and that of the lent arena, and the lent record is one.
-fn fits(file: &[u8], arena: &[u8], control: &[u8]) -> bool
+fn known(v: u16) -> bool
+    ensures { λ t. ⌜ t ≡ known? v ⌝ }
+{
+    if v < 1 {
+        return false;
+    }
+    v <= VERSION
+}
+
+// Whether the length in the file, which is of version v, is allowed, the file's and that of the lent arena, and the lent record is one.
+fn fits(file: &[u8], v: u16, arena: &[u8], control: &[u8]) -> bool
+    requires { ⌜ v ≡ versionIn (now file) ⌝ }
     ensures { λ t. ⌜ t ≡ fits? (now (file .entry)) (now (arena .entry)) (now (control .entry)) ⌝ }
 {
     if !calls::shaped(arena, control) {
         return false;
     }
-    if file.len() != ARENA_AT + arena.len() {
+    if file.len() != RECORD_AT + record_bytes(v) + arena.len() {
         return false;
     }
     le::read4(file, LENGTH_AT) as usize == arena.len()
+}
+
+// The record of a file; an older one is completed with zeros.
+fn put_record(control: &mut [u8], part: &[u8])
+    requires { ⌜ (length (now control) ≡ 1580) × (1572 ≤ length (now part)) × (length (now part) ≤ 1580) ⌝ }
+    ensures { λ _. ⌜ now (control .exit) ≡ now (part .entry) ++ replicate (1580 - length (now (part .entry))) 0 ⌝ }
+{
+    let zeros = [0u8; 8];
+    let rest = RECORD_BYTES - part.len();
+    let n = put_bytes(control, 0, part);
+    put_bytes(control, n, &zeros[..rest]);
+}
+
+// The heap that was read from a file of version v, and its audit by that version's rules; one of version 1 that is sound gets its keys.
+fn heap_read(arena: &mut [u8], control: &[u8], v: u16) -> Reading
+    requires { ⌜ (shape? (now arena) (now control) ≡ true) × (known? v ≡ true) ⌝ }
+    ensures { λ x. ⌜ afterReading (now (arena .exit)) (now (control .entry)) x ≡ heapRead v (now (arena .entry)) (now (control .entry)) ⌝ }
+{
+    let mut r = [0u32; 395];
+    record_words::read_words(control, &mut r);
+    let x = audit::audit_by(arena, &r, v as u32);
+    if 2 <= v {
+        return Reading::Read(x);
+    }
+    if !machine::is_sound(x) {
+        return Reading::Read(x);
+    }
+    image_keys::write_keys(arena, &r);
+    Reading::Read(x)
 }
 
 pub fn read_image(file: &[u8], arena: &mut [u8], control: &mut [u8]) -> Reading
@@ -52,13 +95,15 @@ pub fn read_image(file: &[u8], arena: &mut [u8], control: &mut [u8]) -> Reading
     if !marked(file) {
         return Reading::NoMark;
     }
-    if version_in(file) != VERSION {
+    let v = version_in(file);
+    if !known(v) {
         return Reading::NoVersion;
     }
-    if !fits(file, arena, control) {
+    if !fits(file, v, arena, control) {
         return Reading::WrongLength;
     }
-    put_bytes(control, 0, &file[RECORD_AT..ARENA_AT]);
-    put_bytes(arena, 0, &file[ARENA_AT..]);
-    Reading::Read(calls::audit(arena, control))
+    let at = RECORD_AT + record_bytes(v);
+    put_record(control, &file[RECORD_AT..at]);
+    put_bytes(arena, 0, &file[at..]);
+    heap_read(arena, control, v)
 }

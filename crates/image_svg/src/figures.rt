@@ -1,10 +1,9 @@
 // How many chunks and bytes are live, in the cache, on fast lists and in bins, by their marks.
 ghost use mathlib.Core.Path.{_≡_};
-ghost use Prim.Native.Nat.{_*_, _≤_};
 ghost use lib.ListN.{length};
 ghost use mathlib.Core.Bool.{true};
 ghost use Rattle.le.specs.Arena.{arenaWords};
-ghost use Rattle.machine.specs.Audit.{auditOf};
+ghost use Rattle.machine.specs.Audit.{auditBy};
 ghost use Rattle.audit_walks.specs.Marks.{ArenaBytes, Bytes};
 ghost use Rattle.image_text.specs.ImageText.{tiled?};
 use audit_reached::FIRST_MARK;
@@ -136,13 +135,13 @@ fn count_chunks(a: &[u8], m: &[u8], top: u64) -> Figures
     f
 }
 
-// Of a heap whose audit has tiles to show.
-pub fn figures_of(a: &[u8], r: &[u32]) -> Figures
-    requires { ⌜ ArenaBytes (now a) × (length (now r) ≡ 393) × (tiled? (auditOf (arenaWords (now a)) (now r)) ≡ true) ⌝ }
+// Of a heap whose audit by version v of the rules has tiles to show.
+pub fn figures_of(v: u16, a: &[u8], r: &[u32]) -> Figures
+    requires { ⌜ ArenaBytes (now a) × (length (now r) ≡ 395) × (tiled? (auditBy v (arenaWords (now a)) (now r)) ≡ true) ⌝ }
 {
     let top = Chunk(r[TOP_WORD] as u64);
     let mut m = [UNMARKED; 16384];
     audit_walks::tile_fault(a, top, &mut m);
-    audit_reached::reach(a, r, &mut m);
+    audit_reached::reach(a, r, &mut m, v as u32);
     count_chunks(a, &m, size_at(a, top))
 }

@@ -1,5 +1,4 @@
 // The figures in words, each beside its colour: where the room is, and what it is good for.
-ghost use mathlib.Core.Path.{_≡_};
 ghost use Prim.Native.Nat.{_+_, _≤_};
 ghost use lib.ListN.{length};
 use crate::figures::Figures;

@@ -4,13 +4,12 @@ ghost use mathlib.Core.Bool.{true};
 ghost use Prim.Native.Nat.{_+_, _≤_};
 ghost use lib.ListN.{length, take};
 ghost use Rattle.le.specs.Arena.{arenaWords};
-ghost use Rattle.machine.specs.Audit.{auditOf};
-ghost use Rattle.machine.specs.Calls.{auditCall};
+ghost use Rattle.machine.specs.Audit.{auditBy};
 ghost use Rattle.machine.specs.declared.Audited.{Audited};
 ghost use Rattle.audit_walks.specs.Marks.{ArenaBytes};
-ghost use Rattle.image.specs.Image.{afterReading};
+ghost use Rattle.image.specs.Image.{versionIn, afterReading};
 ghost use Rattle.image.specs.declared.Reading.the-variants.{Read};
-ghost use Rattle.image_text.specs.ImageText.{tiled?};
+ghost use Rattle.image_text.specs.ImageText.{tiled?, AuditedBy};
 ghost use Rattle.image_svg.specs.Picture.{HasRects, Shows, Pictured, PictureOf};
 use crate::figures::figures_of;
 use crate::legend::put_legend;
@@ -127,7 +126,7 @@ fn put_meaning(out: &mut [u8], at: usize, x: Audited) -> usize
 }
 
 // heapimage's first two lines.
-fn put_title(out: &mut [u8], at: usize, n: usize, x: Audited) -> usize
+fn put_title(out: &mut [u8], at: usize, v: u16, n: usize, x: Audited) -> usize
     requires { ⌜ at + 360 ≤ length (now out) ⌝ }
     ensures { λ r. ⌜ r ≤ at + 360 ⌝ }
 {
@@ -136,7 +135,7 @@ fn put_title(out: &mut [u8], at: usize, n: usize, x: Audited) -> usize
         at,
         b"</style>\n<rect width=\"100%\" height=\"100%\" fill=\"#fff\"/>\n<text class=\"h\" x=\"88\" y=\"26\">",
     );
-    let a1 = put_head(out, a0, n);
+    let a1 = put_head(out, a0, v, n);
     let a2 = put_bytes(out, a1, b"</text>\n");
     let a3 = put_line(out, a2, x);
     let a4 = put_audit(out, a3, x);
@@ -144,7 +143,7 @@ fn put_title(out: &mut [u8], at: usize, n: usize, x: Audited) -> usize
 }
 
 // All but figures and strip: 22,000 bytes hold it.
-fn put_frame(out: &mut [u8], n: usize, rows: Rows, x: Audited) -> usize
+fn put_frame(out: &mut [u8], v: u16, n: usize, rows: Rows, x: Audited) -> usize
     requires { ⌜ rows .count ≤ 64 ⌝ }
     requires { ⌜ rows .bytes ≤ 4096 ⌝ }
     requires { ⌜ 22000 ≤ length (now out) ⌝ }
@@ -152,7 +151,7 @@ fn put_frame(out: &mut [u8], n: usize, rows: Rows, x: Audited) -> usize
 {
     let a0 = put_style(out, 0, below(rows) + 130);
     let a1 = put_outline(out, a0, x);
-    let a2 = put_title(out, a1, n, x);
+    let a2 = put_title(out, a1, v, n, x);
     let a3 = put_rows(out, a2, rows);
     put_fault(out, a3, x, n)
 }
@@ -181,47 +180,47 @@ fn put_untiled(out: &mut [u8], at: usize, n: usize) -> usize
 }
 
 // The figures, and the strip.
-fn put_tiled(out: &mut [u8], at: usize, a: &[u8], r: &[u32], y: u64) -> usize
-    requires { ⌜ ArenaBytes (now a) × (length (now r) ≡ 393) × (tiled? (auditOf (arenaWords (now a)) (now r)) ≡ true) ⌝ }
+fn put_tiled(out: &mut [u8], at: usize, v: u16, a: &[u8], r: &[u32], y: u64) -> usize
+    requires { ⌜ ArenaBytes (now a) × (length (now r) ≡ 395) × (tiled? (auditBy v (arenaWords (now a)) (now r)) ≡ true) ⌝ }
     requires { ⌜ at ≤ 22000 ⌝ }
     requires { ⌜ y ≤ 1300 ⌝ }
     requires { ⌜ length (now out) ≡ 1671168 ⌝ }
     ensures { λ n. ⌜ n ≤ 1671168 ⌝ }
-    ensures { λ n. ⌜ HasRects (now (a .entry)) (now (r .entry)) (take n (now (out .exit))) ⌝ }
+    ensures { λ n. ⌜ HasRects v (now (a .entry)) (now (r .entry)) (take n (now (out .exit))) ⌝ }
 {
-    let f = figures_of(a, r);
+    let f = figures_of(v, a, r);
     let a0 = put_legend(out, at, f, y);
     let a1 = put_bytes(out, a0, b"<defs><g id=\"tiles\">\n");
-    let a2 = put_reached(out, a1, Form::Rects, a, r);
+    let a2 = put_reached(out, a1, Form::Rects, v, a, r);
     put_bytes(out, a2, b"</g></defs></svg>\n")
 }
 
-// The heap in arena and record, of which the audit says x.
-fn put_picture(out: &mut [u8], arena: &[u8], control: &[u8], x: Audited) -> usize
-    requires { ⌜ x ≡ auditCall (now arena) (now control) ⌝ }
+// The heap in arena and record, read from a file of version v, of which the audit says x.
+fn put_picture(out: &mut [u8], v: u16, arena: &[u8], control: &[u8], x: Audited) -> usize
+    requires { ⌜ AuditedBy v (now arena) (now control) x ⌝ }
     requires { ⌜ length (now arena) ≤ 262144 ⌝ }
     requires { ⌜ length (now out) ≡ 1671168 ⌝ }
     ensures { λ n. ⌜ n ≤ 1671168 ⌝ }
-    ensures { λ n. ⌜ (tiled? x ≡ true → Shows (now (arena .entry)) (now (control .entry)) (take n (now (out .exit)))) ⌝ }
+    ensures { λ n. ⌜ (tiled? x ≡ true → Shows v (now (arena .entry)) (now (control .entry)) (take n (now (out .exit)))) ⌝ }
 {
     let n = arena.len();
     let rows = rows_of(n);
-    let a0 = put_frame(out, n, rows, x);
+    let a0 = put_frame(out, v, n, rows, x);
     if !tiled(x) {
         return put_untiled(out, a0, n);
     }
-    let mut r = [0u32; 393];
+    let mut r = [0u32; 395];
     record_words::read_words(control, &mut r);
-    put_tiled(out, a0, arena, &r, below(rows))
+    put_tiled(out, a0, v, arena, &r, below(rows))
 }
 
-// What was read of a file into arena and record: the picture of the heap in them, or the line of the refusal's number.
-fn put_reading(out: &mut [u8], arena: &[u8], control: &[u8], x: Reading) -> usize
-    requires { ⌜ ((f : Audited) → x ≡ Read f → f ≡ auditCall (now arena) (now control)) ⌝ }
+// What was read of the file into arena and record: the picture of the heap in them, or the line of the refusal's number.
+fn put_reading(out: &mut [u8], file: &[u8], arena: &[u8], control: &[u8], x: Reading) -> usize
+    requires { ⌜ ((y : Audited) → x ≡ Read y → (5 ≤ length (now file)) × AuditedBy (versionIn (now file)) (now arena) (now control) y) ⌝ }
     requires { ⌜ length (now arena) ≤ 262144 ⌝ }
     requires { ⌜ length (now out) ≡ 1671168 ⌝ }
     ensures { λ n. ⌜ n ≤ 1671168 ⌝ }
-    ensures { λ n. ⌜ Pictured (afterReading (now (arena .entry)) (now (control .entry)) x) (take n (now (out .exit))) ⌝ }
+    ensures { λ n. ⌜ Pictured (versionIn (now (file .entry))) (afterReading (now (arena .entry)) (now (control .entry)) x) (take n (now (out .exit))) ⌝ }
 {
     match x {
         Reading::NoMark => {
@@ -233,8 +232,8 @@ fn put_reading(out: &mut [u8], arena: &[u8], control: &[u8], x: Reading) -> usiz
         Reading::WrongLength => {
             return put_question(out, 0, 1);
         }
-        Reading::Read(f) => {
-            return put_picture(out, arena, control, f);
+        Reading::Read(y) => {
+            return put_picture(out, image::version_in(file), arena, control, y);
         }
     }
 }
@@ -242,7 +241,7 @@ fn put_reading(out: &mut [u8], arena: &[u8], control: &[u8], x: Reading) -> usiz
 // The picture of a file. Arena and record are lent to read it into.
 pub fn put_svg(out: &mut [u8], file: &[u8], arena: &mut [u8], control: &mut [u8]) -> usize
     requires { ⌜ length (now arena) ≡ 262144 ⌝ }
-    requires { ⌜ length (now control) ≡ 1572 ⌝ }
+    requires { ⌜ length (now control) ≡ 1580 ⌝ }
     requires { ⌜ length (now out) ≡ 1671168 ⌝ }
     ensures { λ n. ⌜ n ≤ 1671168 ⌝ }
     ensures { λ n. ⌜ PictureOf (now (file .entry)) (take n (now (out .exit))) ⌝ }
@@ -250,5 +249,5 @@ pub fn put_svg(out: &mut [u8], file: &[u8], arena: &mut [u8], control: &mut [u8]
     let n = length_in(file);
     let lent = &mut arena[..n];
     let x = image::read_image(file, lent, control);
-    put_reading(out, lent, control, x)
+    put_reading(out, file, lent, control, x)
 }

@@ -1,6 +1,5 @@
 // The rows that show the strip, and the place of a fault. A row is 1,024 wide; it shows 256 bytes of a small arena, else 1,024 or 4,096, so that there are at
 // most 16 rows, or 64 of the largest arena.
-ghost use mathlib.Core.Path.{_≡_};
 ghost use Prim.Native.Nat.{_+_, _≤_};
 ghost use lib.ListN.{length};
 use text::put_bytes;

@@ -48,11 +48,11 @@ pub record LinesIn (f : Form) (w m : List ℕ) (n top from at o : ℕ) (p x : Li
   pub atTop : endFrom o ts ≡ top
   pub sub : (c : ℕ) → 1 ≤ cnt c (startsFrom o ts) → 1 ≤ cnt c (startsOf w)
   pub room : at ≤ from + 201 * (o / 32)
-  pub same : (r : List ℕ) → ReachedBy w r m → x ++ tilesText f (reachedIn w r) n o ts ≡ p ++ tilesText f (reachedIn w r) n 0 (tilesOf w)
+  pub same : (v : ℕ) (r : List ℕ) → ReachedBy v w r m → x ++ tilesText f (reachedIn v w r) n o ts ≡ p ++ tilesText f (reachedIn v w r) n 0 (tilesOf w)
 
 pub lines-enter : (f : Form) (w m : List ℕ) (n top from : ℕ) (p : List ℕ) → Flagging w top → LinesIn f w m n top from from 0 p p
 lines-enter f w m n top from p k =
-    record { ts = tilesOf w; even = refl; tiles = k .tiles; atTop = sym (k .atTop); sub = λ c i. i; room = omega arith; same = λ r h. refl }
+    record { ts = tilesOf w; even = refl; tiles = k .tiles; atTop = sym (k .atTop); sub = λ c i. i; room = omega arith; same = λ v r h. refl }
 
 pub lines-low : (f : Form) (a m : List ℕ) (n top from at o : ℕ) (p x : List ℕ) → ArenaBytes a → LinesIn f (arenaWords a) m n top from at o p x
     → (o ≤ top) × (top + 32 ≤ length a)
@@ -71,14 +71,14 @@ module _ (f : Form) (w m : List ℕ) (n top from at o : ℕ) (p x : List ℕ) (i
 
   pub lines-turn : (y : List ℕ) (b s : ℕ) → s ≡ sizeAt w o → o < top → b ≤ at + 201
       → ((j : ℕ) → getD m (o / 16) 0 ≡ reachedMark j → y ≡ x ++ formText f o s (stateText j)) → LinesIn f w m n top from b (o + s) p y
-  lines-turn y b s v lt less e = go (i .ts) (i .tiles) (i .atTop) (i .sub) (i .same)
+  lines-turn y b s z lt less e = go (i .ts) (i .tiles) (i .atTop) (i .sub) (i .same)
     where
       go : (ts : List Tile) → TilesOk w o ts → endFrom o ts ≡ top → ((c : ℕ) → 1 ≤ cnt c (startsFrom o ts) → 1 ≤ cnt c (startsOf w))
-          → ((r : List ℕ) → ReachedBy w r m → x ++ tilesText f (reachedIn w r) n o ts ≡ p ++ tilesText f (reachedIn w r) n 0 (tilesOf w))
+          → ((v : ℕ) (r : List ℕ) → ReachedBy v w r m → x ++ tilesText f (reachedIn v w r) n o ts ≡ p ++ tilesText f (reachedIn v w r) n 0 (tilesOf w))
           → LinesIn f w m n top from b (o + s) p y
       go [] k a u q = absurd (omega arith)
       go (t ∷ ts) k a u q =
-          let d : s ≡ t .size = v ∙ ap (λ (z : Tile). z .size) (tile-read w o t ts k) in
+          let d : s ≡ t .size = z ∙ ap (λ (z : Tile). z .size) (tile-read w o t ts k) in
           record {
             ts = ts;
             even = omega (arith, d, i .even, k .sizes .0);
@@ -86,17 +86,17 @@ module _ (f : Form) (w m : List ℕ) (n top from at o : ℕ) (p x : List ℕ) (i
             atTop = rw d a;
             sub = λ c j. u c (cnt-there c o (startsFrom (o + t .size) ts) (rw d at j));
             room = omega (arith, d, i .room, k .sizes .1);
-            same = λ r h.
-                let line = e (reachedIn w r o) (h o (u o (cnt-here o (startsFrom (o + t .size) ts)))) in
-                rw d (line-more f (reachedIn w r) n o t ts x y (rw d at line) ∙ q r h);
+            same = λ v r h.
+                let line = e (reachedIn v w r o) (h o (u o (cnt-here o (startsFrom (o + t .size) ts)))) in
+                rw d (line-more f (reachedIn v w r) n o t ts x y (rw d at line) ∙ q v r h);
           }
 
-  pub lines-last : (y : List ℕ) → top ≤ o → y ≡ x ++ formText f top (n - top) topWord → (r : List ℕ) → ReachedBy w r m
-      → y ≡ p ++ tilesText f (reachedIn w r) n 0 (tilesOf w)
+  pub lines-last : (y : List ℕ) → top ≤ o → y ≡ x ++ formText f top (n - top) topWord → (v : ℕ) (r : List ℕ) → ReachedBy v w r m
+      → y ≡ p ++ tilesText f (reachedIn v w r) n 0 (tilesOf w)
   unfolding tilesText
-  lines-last y le e r h = go (i .ts) (i .tiles) (i .atTop) (i .same r h)
+  lines-last y le e v r h = go (i .ts) (i .tiles) (i .atTop) (i .same v r h)
     where
-      go : (ts : List Tile) → TilesOk w o ts → endFrom o ts ≡ top → x ++ tilesText f (reachedIn w r) n o ts ≡ p ++ tilesText f (reachedIn w r) n 0 (tilesOf w)
-          → y ≡ p ++ tilesText f (reachedIn w r) n 0 (tilesOf w)
+      go : (ts : List Tile) → TilesOk w o ts → endFrom o ts ≡ top → x ++ tilesText f (reachedIn v w r) n o ts ≡ p ++ tilesText f (reachedIn v w r) n 0 (tilesOf w)
+          → y ≡ p ++ tilesText f (reachedIn v w r) n 0 (tilesOf w)
       go [] k a s = e ∙ rw (sym a) s
       go (t ∷ ts) k a s = absurd (omega (arith, end-le (o + t .size) ts, k .sizes .1))

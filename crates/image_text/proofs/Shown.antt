@@ -1,6 +1,6 @@
--- Where the audit's answer has tiles to show, the shape is good and so are the tiles: a fault of the record or of a tile comes first. By the audit's parts in
--- turn. Assumes nothing.
-use mathlib.Core.Path.{_≡_, refl}
+-- Where the audit's answer has tiles to show, the tiles are good: a fault of the record or of a tile comes first. By the audit's parts in turn. Assumes
+-- nothing.
+use mathlib.Core.Path.{_≡_, refl, sym, ap, _∙_}
 use mathlib.Core.List.{List, [], _∷_}
 use mathlib.Core.Bool.{Bool, true, false}
 use Prim.Native.Nat.{ℕ, _+_, _*_, _%_, _≤_}
@@ -12,20 +12,20 @@ use Rattle.sizes.specs.Layout.{lengthWord, topWord}
 use Rattle.machine.specs.Lists.{both}
 use Rattle.machine.specs.Heap.{Tile}
 use Rattle.machine.specs.View.{tilesOf}
-use Rattle.machine.specs.Audit.{sound?, first, tileOk, tileFault, auditOf}
-use Rattle.machine.specs.Calls.{arenaAllowed?, shape?, wordsOf, auditCall}
+use Rattle.machine.specs.Audit.{sound?, first, tileOk, tileFault, auditBy}
+use Rattle.machine.specs.Calls.{arenaAllowed?, wordsOf}
 use Rattle.machine.specs.declared.Audited.{Audited}
 use Rattle.machine.specs.declared.Audited.the-variants as A
 use Rattle.sound.specs.Release.{both-true}
 use Rattle.audit_walks.specs.Tests.{false-true, is-sound}
 use Rattle.audit_walks.specs.Marks.{ArenaBytes}
-use Rattle.image_text.specs.ImageText.{tiled?}
+use Rattle.image_text.specs.ImageText.{tiled?, AuditedBy}
 
--- arena bytes a and record bytes r whose tiles are shown
-pub record Shown (a r : List ℕ) : Type 0 where
+-- arena bytes a and record bytes r whose tiles are shown, by the rules of version v
+pub record Shown (v : ℕ) (a r : List ℕ) : Type 0 where
   pub arena : ArenaBytes a
-  pub long : length r ≡ 1572
-  pub tiled : tiled? (auditOf (arenaWords a) (wordsOf r)) ≡ true
+  pub long : length r ≡ 1580
+  pub tiled : tiled? (auditBy v (arenaWords a) (wordsOf r)) ≡ true
 
 -- ---- the shape
 pub allowed-parts : (n : ℕ) → arenaAllowed? n ≡ true → (n % 16 ≡ 0) × (32 ≤ n) × (n ≤ 262144)
@@ -63,19 +63,14 @@ first-shown x y h e = go (sound? x) refl e
     go true q e = is-sound x q
     go false q e = h e
 
-pub words-shown : (w r : List ℕ) → tiled? (auditOf w r) ≡ true → tileFault w (getD r topWord 0) 0 (tilesOf w) ≡ A.Sound
-unfolding auditOf
-words-shown w r e =
+pub words-shown : (v : ℕ) (w r : List ℕ) → tiled? (auditBy v w r) ≡ true → tileFault w (getD r topWord 0) 0 (tilesOf w) ≡ A.Sound
+unfolding auditBy
+words-shown v w r e =
     first-shown (tileFault w (getD r topWord 0) 0 (tilesOf w)) _ (tile-shown w (getD r topWord 0) 0 (tilesOf w))
     (record-shown (eqb (getD r lengthWord 0) (8 * length w)) _ e)
 
-pub tiled-shown : (a r : List ℕ) → tiled? (auditCall a r) ≡ true → Shown a r
-unfolding auditCall
-tiled-shown a r e = go (shape? a r) refl e
-  where
-    go : (b : Bool) → shape? a r ≡ b → tiled? (elim b [ true ↦ auditOf (arenaWords a) (wordsOf r) | false ↦ A.Shape ]) ≡ true → Shown a r
-    go true q e =
-        let p = both-true (eqb (length r) 1572) (arenaAllowed? (length a)) q in
-        let l = allowed-parts (length a) (p .1) in
-        record { arena = record { even = l .0; least = l .1; small = l .2 }; long = eqb-true (length r) 1572 (p .0); tiled = e }
-    go false q e = false-true e
+pub tiled-shown : (v : ℕ) (a r : List ℕ) (x : Audited) → AuditedBy v a r x → tiled? x ≡ true → Shown v a r
+tiled-shown v a r x k e =
+    let p = both-true (eqb (length r) 1580) (arenaAllowed? (length a)) (k .shape) in
+    let l = allowed-parts (length a) (p .1) in
+    record { arena = record { even = l .0; least = l .1; small = l .2 }; long = eqb-true (length r) 1580 (p .0); tiled = sym (ap tiled? (k .is)) ∙ e }

@@ -1,4 +1,6 @@
--- What heapimage prints of a file: its version and length, the audit's answer, and a line for each tile with its state. Definitions only.
+-- What heapimage prints of a file: its version and length, the audit's answer, and a line for each tile with its state, by the rules of that version.
+-- Definitions only.
+use mathlib.Core.Path.{_≡_}
 use mathlib.Core.List.{List, [], _∷_, _++_}
 use mathlib.Core.Bool.{Bool, true, false}
 use Prim.Native.Nat.{ℕ, _+_, _-_}
@@ -8,7 +10,8 @@ use Rattle.le.specs.Arena.{arenaWords}
 use Rattle.sizes.specs.Limits.{recordBytes}
 use Rattle.machine.specs.Heap.{Tile}
 use Rattle.machine.specs.View.{kindAt, tilesOf}
-use Rattle.machine.specs.Calls.{wordsOf}
+use Rattle.machine.specs.Audit.{auditBy}
+use Rattle.machine.specs.Calls.{shape?, wordsOf}
 use Rattle.machine.specs.declared.{ListKind.ListKind, Audited.Audited}
 use Rattle.machine.specs.declared.ListKind.the-variants.{Cache, Fast, Bin}
 use Rattle.machine.specs.declared.Audited.the-variants as A
@@ -16,7 +19,7 @@ use Rattle.text.specs.Text.{newline, blank, decimal, field, questionText}
 use Rattle.image_text.specs.declared.Form.{Form}
 use Rattle.image_text.specs.declared.Form.the-variants.{Lines, Rects}
 use Rattle.audit_reached.specs.Reached.{reachedIn}
-use Rattle.image.specs.Image.{version, lengthIn, readCall, AfterReading, afterReading, readingNumbers}
+use Rattle.image.specs.Image.{versionIn, lengthIn, readCall, AfterReading, afterReading, readingNumbers}
 use Rattle.image.specs.declared.Reading.the-variants.{NoMark, NoVersion, WrongLength, Read}
 
 -- ---- the words: image, sound, fault, record, tile, flag, cache, fast, bin, live, top
@@ -54,8 +57,8 @@ abbrev pub topWord : List ℕ
 topWord = 116 ∷ 111 ∷ 112 ∷ []
 
 -- ---- image VERSION LENGTH
-unfoldable pub headText : ℕ → List ℕ
-headText n = imageWord ++ (field version ++ (field n ++ (newline ∷ [])))
+unfoldable pub headText : ℕ → ℕ → List ℕ
+headText v n = imageWord ++ (field v ++ (field n ++ (newline ∷ [])))
 
 -- ---- the audit's answer: sound; fault, and what and where. A file that is read has a good shape
 unfoldable pub listText : ListKind → List ℕ
@@ -110,6 +113,10 @@ unfoldable pub tilesText : Form → (ℕ → ℕ) → ℕ → ℕ → List Tile 
 tilesText f list n o [] = formText f o (n - o) topWord
 tilesText f list n o (t ∷ ts) = formText f o (t .size) (stateText (list o)) ++ tilesText f list n (o + t .size) ts
 
+-- those of arena bytes a, with the lists of the record's words w by the rules of version v
+abbrev pub arenaText : Form → ℕ → List ℕ → List ℕ → List ℕ
+arenaText f v a w = tilesText f (reachedIn v (arenaWords a) w) (length a) 0 (tilesOf (arenaWords a))
+
 -- there are tiles to show unless the fault is record or tile
 abbrev pub tiled? : Audited → Bool
 tiled? A.Sound = true
@@ -119,19 +126,21 @@ tiled? (A.List k) = true
 tiled? (A.Flag o) = true
 tiled? A.Shape = false
 
--- ---- the heap in arena bytes a and record bytes r, of which the audit says x
-unfoldable pub heapText : List ℕ → List ℕ → Audited → List ℕ
-heapText a r x =
-    headText (length a)
-    ++ (auditText x
-    ++ elim (tiled? x) [ true ↦ tilesText Lines (reachedIn (arenaWords a) (wordsOf r)) (length a) 0 (tilesOf (arenaWords a)) | false ↦ [] ])
+-- ---- arena bytes a and record bytes r, of a good shape, of which the audit by the rules of version v says x
+pub record AuditedBy (v : ℕ) (a r : List ℕ) (x : Audited) : Type 0 where
+  pub shape : shape? a r ≡ true
+  pub is : x ≡ auditBy v (arenaWords a) (wordsOf r)
 
--- ---- a file: what is read of it into buffers of the right lengths, or `? N`
-abbrev pub readText : AfterReading → List ℕ
-readText (afterReading a r NoMark) = questionText (readingNumbers NoMark .no)
-readText (afterReading a r NoVersion) = questionText (readingNumbers NoVersion .no)
-readText (afterReading a r WrongLength) = questionText (readingNumbers WrongLength .no)
-readText (afterReading a r (Read x)) = heapText a r x
+-- the text of that heap
+unfoldable pub heapText : ℕ → List ℕ → List ℕ → Audited → List ℕ
+heapText v a r x = headText v (length a) ++ (auditText x ++ elim (tiled? x) [ true ↦ arenaText Lines v a (wordsOf r) | false ↦ [] ])
+
+-- ---- a file: what is read of it, of version v, into buffers of the right lengths, or `? N`
+abbrev pub readText : ℕ → AfterReading → List ℕ
+readText v (afterReading a r NoMark) = questionText (readingNumbers NoMark .no)
+readText v (afterReading a r NoVersion) = questionText (readingNumbers NoVersion .no)
+readText v (afterReading a r WrongLength) = questionText (readingNumbers WrongLength .no)
+readText v (afterReading a r (Read x)) = heapText v a r x
 
 unfoldable pub imageText : List ℕ → List ℕ
-imageText f = readText (readCall f (replicate (lengthIn f) 0) (replicate recordBytes 0))
+imageText f = readText (versionIn f) (readCall f (replicate (lengthIn f) 0) (replicate recordBytes 0))

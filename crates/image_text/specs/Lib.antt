@@ -1,2 +1,1 @@
 pub mod ImageText
-pub mod ArenaText

@@ -6,7 +6,7 @@ ghost use lib.ListN.{length, take};
 ghost use Rattle.le.specs.Arena.{arenaWords};
 ghost use Rattle.audit_walks.specs.Marks.{Bytes, Flagging};
 ghost use Rattle.audit_reached.specs.Reached.{ReachedBy};
-ghost use Rattle.image_text.specs.ArenaText.{arenaText};
+ghost use Rattle.image_text.specs.ImageText.{arenaText};
 use crate::Form;
 use crate::forms::put_tile;
 use crate::forms::put_top;
@@ -18,8 +18,8 @@ pub fn put_tiles(out: &mut [u8], from: usize, form: Form, a: &[u8], top: usize, 
     requires { ⌜ Bytes (now a) (now m) × Flagging (arenaWords (now a)) top ⌝ }
     requires { ⌜ from + 201 * (length (now a) / 32) ≤ length (now out) ⌝ }
     ensures { λ n. ⌜ n ≤ from + 201 * (length (now (a .entry)) / 32) ⌝ }
-    ensures { λ n. ⌜ ((r : List ℕ) → ReachedBy (arenaWords (now (a .entry))) r (now (m .entry))
-        → take n (now (out .exit)) ≡ take from (now (out .entry)) ++ arenaText form (now (a .entry)) r) ⌝ }
+    ensures { λ n. ⌜ ((v : ℕ) (r : List ℕ) → ReachedBy v (arenaWords (now (a .entry))) r (now (m .entry))
+        → take n (now (out .exit)) ≡ take from (now (out .entry)) ++ arenaText form v (now (a .entry)) r) ⌝ }
 {
     let mut at = from;
     let mut o: usize = 0;

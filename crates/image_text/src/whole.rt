@@ -5,14 +5,12 @@ ghost use mathlib.Core.Bool.{true};
 ghost use Prim.Native.Nat.{_+_, _*_, _/_, _≤_};
 ghost use lib.ListN.{length, take};
 ghost use Rattle.le.specs.Arena.{arenaWords};
-ghost use Rattle.machine.specs.Audit.{auditOf};
-ghost use Rattle.machine.specs.Calls.{auditCall};
+ghost use Rattle.machine.specs.Audit.{auditBy};
 ghost use Rattle.machine.specs.declared.Audited.{Audited};
 ghost use Rattle.audit_walks.specs.Marks.{ArenaBytes};
 ghost use Rattle.image.specs.declared.Reading.the-variants.{Read};
-ghost use Rattle.image.specs.Image.{lengthIn, afterReading};
-ghost use Rattle.image_text.specs.ImageText.{headText, tiled?, heapText, readText, imageText};
-ghost use Rattle.image_text.specs.ArenaText.{arenaText};
+ghost use Rattle.image.specs.Image.{versionIn, lengthIn, afterReading};
+ghost use Rattle.image_text.specs.ImageText.{headText, arenaText, tiled?, AuditedBy, heapText, readText, imageText};
 use crate::Form;
 use crate::tiles::put_tiles;
 use crate::words::put_audit;
@@ -20,7 +18,6 @@ use audit_walks::UNMARKED;
 use image::LENGTH_AT;
 use image::RECORD_AT;
 use image::Reading;
-use image::VERSION;
 use machine::Audited;
 use sizes::Chunk;
 use sizes::MOST_ARENA;
@@ -31,13 +28,13 @@ use text::put_field;
 use text::put_question;
 
 // image VERSION LENGTH
-pub fn put_head(out: &mut [u8], at: usize, n: usize) -> usize
+pub fn put_head(out: &mut [u8], at: usize, v: u16, n: usize) -> usize
     requires { ⌜ at + 48 ≤ length (now out) ⌝ }
     ensures { λ r. ⌜ r ≤ at + 48 ⌝ }
-    ensures { λ r. ⌜ take r (now (out .exit)) ≡ take at (now (out .entry)) ++ headText n ⌝ }
+    ensures { λ r. ⌜ take r (now (out .exit)) ≡ take at (now (out .entry)) ++ headText v n ⌝ }
 {
     let a0 = put_bytes(out, at, b"image");
-    let a1 = put_field(out, a0, VERSION as u64);
+    let a1 = put_field(out, a0, v as u64);
     let a2 = put_field(out, a1, n as u64);
     put_byte(out, a2, b'\n')
 }
@@ -55,35 +52,35 @@ pub fn tiled(x: Audited) -> bool
     }
 }
 
-// The tiles of a heap whose audit has tiles to show, in a form.
-pub fn put_reached(out: &mut [u8], at: usize, form: Form, a: &[u8], r: &[u32]) -> usize
-    requires { ⌜ ArenaBytes (now a) × (length (now r) ≡ 393) × (tiled? (auditOf (arenaWords (now a)) (now r)) ≡ true) ⌝ }
+// The tiles of a heap whose audit by version v of the rules has tiles to show, in a form.
+pub fn put_reached(out: &mut [u8], at: usize, form: Form, v: u16, a: &[u8], r: &[u32]) -> usize
+    requires { ⌜ ArenaBytes (now a) × (length (now r) ≡ 395) × (tiled? (auditBy v (arenaWords (now a)) (now r)) ≡ true) ⌝ }
     requires { ⌜ at + 201 * (length (now a) / 32) ≤ length (now out) ⌝ }
     ensures { λ n. ⌜ n ≤ at + 201 * (length (now (a .entry)) / 32) ⌝ }
-    ensures { λ n. ⌜ take n (now (out .exit)) ≡ take at (now (out .entry)) ++ arenaText form (now (a .entry)) (now (r .entry)) ⌝ }
+    ensures { λ n. ⌜ take n (now (out .exit)) ≡ take at (now (out .entry)) ++ arenaText form v (now (a .entry)) (now (r .entry)) ⌝ }
 {
     let top = r[TOP_WORD] as usize;
     let mut m = [UNMARKED; 16384];
     audit_walks::tile_fault(a, Chunk(top as u64), &mut m);
-    audit_reached::reach(a, r, &mut m);
+    audit_reached::reach(a, r, &mut m, v as u32);
     put_tiles(out, at, form, a, top, &m)
 }
 
-// The heap in arena and record, of which the audit says x.
-fn put_heap(out: &mut [u8], arena: &[u8], control: &[u8], x: Audited) -> usize
-    requires { ⌜ x ≡ auditCall (now arena) (now control) ⌝ }
+// The heap in arena and record, read from a file of version v, of which the audit says x.
+fn put_heap(out: &mut [u8], v: u16, arena: &[u8], control: &[u8], x: Audited) -> usize
+    requires { ⌜ AuditedBy v (now arena) (now control) x ⌝ }
     requires { ⌜ length (now out) ≡ 1671168 ⌝ }
     ensures { λ n. ⌜ n ≤ 1671168 ⌝ }
-    ensures { λ n. ⌜ take n (now (out .exit)) ≡ heapText (now (arena .entry)) (now (control .entry)) x ⌝ }
+    ensures { λ n. ⌜ take n (now (out .exit)) ≡ heapText v (now (arena .entry)) (now (control .entry)) x ⌝ }
 {
-    let a0 = put_head(out, 0, arena.len());
+    let a0 = put_head(out, 0, v, arena.len());
     let a1 = put_audit(out, a0, x);
     if !tiled(x) {
         return a1;
     }
-    let mut r = [0u32; 393];
+    let mut r = [0u32; 395];
     record_words::read_words(control, &mut r);
-    put_reached(out, a1, Form::Lines, arena, &r)
+    put_reached(out, a1, Form::Lines, v, arena, &r)
 }
 
 // The arena length in the file, where it has one that a buffer can be lent for.
@@ -101,12 +98,12 @@ pub fn length_in(file: &[u8]) -> usize
     n
 }
 
-// What was read of a file into arena and record: the heap in them, or the line of the refusal's number.
-fn put_reading(out: &mut [u8], arena: &[u8], control: &[u8], x: Reading) -> usize
-    requires { ⌜ ((f : Audited) → x ≡ Read f → f ≡ auditCall (now arena) (now control)) ⌝ }
+// What was read of the file into arena and record: the heap in them, or the line of the refusal's number. A file that is refused may have no version.
+fn put_reading(out: &mut [u8], file: &[u8], arena: &[u8], control: &[u8], x: Reading) -> usize
+    requires { ⌜ ((y : Audited) → x ≡ Read y → (5 ≤ length (now file)) × AuditedBy (versionIn (now file)) (now arena) (now control) y) ⌝ }
     requires { ⌜ length (now out) ≡ 1671168 ⌝ }
     ensures { λ n. ⌜ n ≤ 1671168 ⌝ }
-    ensures { λ n. ⌜ take n (now (out .exit)) ≡ readText (afterReading (now (arena .entry)) (now (control .entry)) x) ⌝ }
+    ensures { λ n. ⌜ take n (now (out .exit)) ≡ readText (versionIn (now (file .entry))) (afterReading (now (arena .entry)) (now (control .entry)) x) ⌝ }
 {
     match x {
         Reading::NoMark => {
@@ -118,8 +115,8 @@ fn put_reading(out: &mut [u8], arena: &[u8], control: &[u8], x: Reading) -> usiz
         Reading::WrongLength => {
             return put_question(out, 0, 1);
         }
-        Reading::Read(f) => {
-            return put_heap(out, arena, control, f);
+        Reading::Read(y) => {
+            return put_heap(out, image::version_in(file), arena, control, y);
         }
     }
 }
@@ -127,7 +124,7 @@ fn put_reading(out: &mut [u8], arena: &[u8], control: &[u8], x: Reading) -> usiz
 // The text of a file. Arena and record are lent to read it into.
 pub fn put_image(out: &mut [u8], file: &[u8], arena: &mut [u8], control: &mut [u8]) -> usize
     requires { ⌜ length (now arena) ≡ 262144 ⌝ }
-    requires { ⌜ length (now control) ≡ 1572 ⌝ }
+    requires { ⌜ length (now control) ≡ 1580 ⌝ }
     requires { ⌜ length (now out) ≡ 1671168 ⌝ }
     ensures { λ n. ⌜ n ≤ 1671168 ⌝ }
     ensures { λ n. ⌜ take n (now (out .exit)) ≡ imageText (now (file .entry)) ⌝ }
@@ -135,5 +132,5 @@ pub fn put_image(out: &mut [u8], file: &[u8], arena: &mut [u8], control: &mut [u
     let n = length_in(file);
     let lent = &mut arena[..n];
     let x = image::read_image(file, lent, control);
-    put_reading(out, lent, control, x)
+    put_reading(out, file, lent, control, x)
 }

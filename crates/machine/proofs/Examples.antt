@@ -3,7 +3,7 @@
 use mathlib.Core.Path.{_≡_, refl}
 use mathlib.Core.Bool.{true}
 use mathlib.Core.List.{List, [], _∷_, _++_}
-use Prim.Native.Nat.{ℕ}
+use Prim.Native.Nat.{ℕ, _/_}
 use lib.ListN.{length, getD, take, drop, replicate}
 use Rattle.le.specs.Number.{number, numberFrom, words, digits, bytes}
 use Rattle.le.specs.Arena.{arenaWords}
@@ -12,7 +12,7 @@ use Rattle.sizes.specs.Sizes.{need}
 use Rattle.machine.specs.Heap.{Heap, cache, fast, bin, sizeOf, pOf, recordOf}
 use Rattle.machine.specs.Writes.{apply}
 use Rattle.machine.specs.Grant.{grant}
-use Rattle.machine.specs.Audit.{auditOf}
+use Rattle.machine.specs.Audit.{auditBy}
 use Rattle.machine.specs.Calls.{After, after, answerNumbers, openCall, granted, grantCall, releaseCall, resizeCall}
 use Rattle.machine.proofs.Script.{Line, G, R, S, E, J, Z, script, outs, heapAfter, writesAfter, arenaAfter, same?}
 
@@ -324,15 +324,54 @@ numberOf (after a r x) = answerNumbers x .no
 numberAfter : (List ℕ → List ℕ → After) → After → ℕ
 numberAfter f (after a r x) = numberOf (f a r)
 
-number-2-first : numberAfter (λ a r. resizeCall a r 16 262145) (openCall (replicate 32 0) (replicate 1572 0)) ≡ 2
+number-2-first : numberAfter (λ a r. resizeCall a r 16 262145) (openCall (replicate 32 0) (replicate 1580 0) 99) ≡ 2
 unfolding numberOf numberAfter openCall resizeCall recordOf words digits bytes number numberFrom arenaWords
 number-2-first = refl
 
 -- on a record of zeros, which is no heap's, a grant above 262,144 is refused with 2 and not with 3, and null with 3
-number-2-before-3 : numberOf (grantCall (replicate 32 0) (replicate 1572 0) 262145) ≡ 2
+number-2-before-3 : numberOf (grantCall (replicate 32 0) (replicate 1580 0) 262145) ≡ 2
 unfolding numberOf grantCall
 number-2-before-3 = refl
 
-null-unsound : numberOf (releaseCall (replicate 32 0) (replicate 1572 0) 0) ≡ 3
-unfolding numberOf releaseCall auditOf words digits bytes number numberFrom arenaWords
+null-unsound : numberOf (releaseCall (replicate 32 0) (replicate 1580 0) 0) ≡ 3
+unfolding numberOf releaseCall auditBy words digits bytes number numberFrom arenaWords
 null-unsound = refl
+
+-- ---- the key, 99 here, in the second word of a cached chunk, over an arena of sevens; what stands in word i afterwards
+wordAfter : ℕ → List Line → ℕ → ℕ
+wordAfter n ls i = getD (apply (writesAfter (script n ls)) (replicate (n / 8) 7)) i 0
+
+-- a release on the cache writes it, the grant that takes the chunk 0; an emptying writes 0 too, and a fast list gets neither
+key-and-0 : same?
+    (wordAfter 256 (G 24 ∷ G 24 ∷ R 16 ∷ []) 3 ∷ wordAfter 256 (G 24 ∷ G 24 ∷ R 16 ∷ G 24 ∷ []) 3 ∷ wordAfter 256 (G 24 ∷ G 24 ∷ R 16 ∷ E ∷ []) 3
+    ∷ wordAfter 1024 eight 31 ∷ [])
+    (99 ∷ 0 ∷ 0 ∷ 7 ∷ []) ≡ true
+unfolding script eight wordAfter
+key-and-0 = refl
+
+-- step 2: nine released, seven granted from the cache; the next takes 256 from the fast list as it is and moves 224 to the cache, with the key
+seven-of : ℕ → List Line
+seven-of n = G n ∷ G n ∷ G n ∷ G n ∷ G n ∷ G n ∷ G n ∷ []
+
+key-in-step-2 : same?
+    (let ls : List Line = (G 24 ∷ eight) ++ (R 272 ∷ seven-of 24 ++ G 24 ∷ []) in wordAfter 1024 ls 31 ∷ wordAfter 1024 ls 35 ∷ [])
+    (99 ∷ 7 ∷ []) ≡ true
+unfolding script eight seven-of wordAfter
+key-in-step-2 = refl
+
+-- nine chunks of 144 bytes with a live one behind each; seven go to the cache, two, at 1,232 and 1,408, to unsorted, and the cache is emptied by grants
+pairs-of : ℕ → List Line
+pairs-of n = G n ∷ G 24 ∷ G n ∷ G 24 ∷ G n ∷ G 24 ∷ G n ∷ G 24 ∷ G n ∷ G 24 ∷ G n ∷ G 24 ∷ G n ∷ G 24 ∷ G n ∷ G 24 ∷ G n ∷ G 24 ∷ []
+
+two-unsorted : List Line
+two-unsorted = pairs-of 136 ++ (R 16 ∷ R 192 ∷ R 368 ∷ R 544 ∷ R 720 ∷ R 896 ∷ R 1072 ∷ R 1248 ∷ R 1424 ∷ seven-of 136)
+
+-- step 3: sorted by a larger grant, then 1,232 is taken, a chunk of a bin, its old back link as it was, and 1,408 moved to the cache with the key
+key-in-step-3 : same? (let ls : List Line = two-unsorted ++ G 200 ∷ G 136 ∷ [] in wordAfter 2048 ls 157 ∷ wordAfter 2048 ls 179 ∷ []) (1408 ∷ 99 ∷ []) ≡ true
+unfolding script pairs-of seven-of two-unsorted wordAfter
+key-in-step-3 = refl
+
+-- step 5: both are of the size asked for and cached with the key; the head is granted, with 0
+key-in-step-5 : same? (let ls : List Line = two-unsorted ++ G 136 ∷ [] in wordAfter 2048 ls 157 ∷ wordAfter 2048 ls 179 ∷ []) (99 ∷ 0 ∷ []) ≡ true
+unfolding script pairs-of seven-of two-unsorted wordAfter
+key-in-step-5 = refl

@@ -7,21 +7,21 @@ use lib.ListN.{length, set, replicate}
 use Rattle.sizes.specs.Limits.{none64, none32}
 use Rattle.sizes.specs.Sizes.{binOf, largeBin}
 use Rattle.machine.specs.View.{listAt, tilesOf, stacksOf, binsOf}
-use Rattle.machine.specs.Audit.{tileFault, goodFrom, listFault, flagFault, auditOf}
+use Rattle.machine.specs.Audit.{tileFault, goodFrom, listFault, flagFault, auditBy, auditOf}
 use Rattle.machine.specs.Calls.{faultNumbers}
 use Rattle.machine.proofs.Script.{same?}
 
--- chunk 0 cached (32 bytes), 32 live (48), 80 unsorted (64), 144 live (32, P clear, previous size 64), 176 the top (80)
+-- chunk 0 cached (32 bytes, the key in its second word), 32 live (48), 80 unsorted (64), 144 live (32, P clear, previous size 64), 176 the top (80)
 arena : List ℕ
 arena =
-    0 ∷ 33 ∷ none64 ∷ 0 ∷
+    0 ∷ 33 ∷ none64 ∷ 8589934601 ∷
     0 ∷ 49 ∷ 0 ∷ 0 ∷ 0 ∷ 0 ∷
     0 ∷ 65 ∷ none64 ∷ none64 ∷ 0 ∷ 0 ∷ 0 ∷ 0 ∷
     64 ∷ 32 ∷ 0 ∷ 0 ∷
     0 ∷ 81 ∷ replicate 8 0
 
 kept : List ℕ
-kept = 256 ∷ 176 ∷ 7 ∷ (0 ∷ replicate 63 none32) ++ ((1 ∷ replicate 63 0) ++ (replicate 10 none32 ++ (80 ∷ 80 ∷ replicate 250 none32)))
+kept = 256 ∷ 176 ∷ 7 ∷ (0 ∷ replicate 63 none32) ++ ((1 ∷ replicate 63 0) ++ (replicate 10 none32 ++ (80 ∷ 80 ∷ replicate 250 none32 ++ (9 ∷ 2 ∷ []))))
 
 -- kind and number of the audit's answer
 verdict : List ℕ → List ℕ → List ℕ
@@ -36,6 +36,8 @@ faults =
     ++ (verdict arena (set kept 1 144)  -- the top elsewhere: named at the last tile
     ++ (verdict (set arena 2 0) kept  -- a list that goes round
     ++ (verdict (set arena 2 4294967295) kept  -- 32 ones for a link's end
+    ++ (verdict (set arena 3 0) kept  -- a wrong key
+    ++ (verdict arena (set kept 394 3)  -- and another one in the record
     ++ (verdict arena (set kept 67 2)  -- a count that is not the length
     ++ (verdict arena (set kept 131 0)  -- a chunk in two lists: the later is bad
     ++ (verdict arena (set kept 138 32)  -- fast list 7 owns no size
@@ -44,14 +46,21 @@ faults =
     ++ (verdict arena (set (set kept 3 176) 67 1)  -- the top in a list
     ++ (verdict (set arena 18 48) kept  -- a wrong previous size
     ++ (verdict (set arena 19 33) kept  -- P set after a binned chunk
-    ++ verdict (set arena 1 32) kept))))))))))))))  -- chunk 0 with P clear
+    ++ verdict (set arena 1 32) kept))))))))))))))))  -- chunk 0 with P clear
 
 first-faults : same? faults
-    (0 ∷ 0 ∷ 1 ∷ 0 ∷ 2 ∷ 32 ∷ 2 ∷ 32 ∷ 2 ∷ 176 ∷ 3 ∷ 0 ∷ 3 ∷ 0 ∷ 3 ∷ 0 ∷ 4 ∷ 0 ∷ 4 ∷ 7 ∷ 5 ∷ 1 ∷ 5 ∷ 1 ∷ 3 ∷ 0 ∷ 6 ∷ 144 ∷ 6 ∷ 144 ∷ 6 ∷ 0 ∷ []) ≡ true
-unfolding arena kept verdict faults auditOf tileFault listFault flagFault goodFrom listAt tilesOf stacksOf binsOf binOf largeBin
+    (0 ∷ 0 ∷ 1 ∷ 0 ∷ 2 ∷ 32 ∷ 2 ∷ 32 ∷ 2 ∷ 176 ∷ 3 ∷ 0 ∷ 3 ∷ 0 ∷ 3 ∷ 0 ∷ 3 ∷ 0 ∷ 3 ∷ 0 ∷ 4 ∷ 0 ∷ 4 ∷ 7 ∷ 5 ∷ 1 ∷ 5 ∷ 1 ∷ 3 ∷ 0 ∷ 6 ∷ 144 ∷ 6 ∷ 144 ∷ 6 ∷ 0 ∷ []) ≡ true
+unfolding arena kept verdict faults auditBy tileFault listFault flagFault goodFrom listAt tilesOf stacksOf binsOf binOf largeBin
 first-faults = refl
 
 -- of two bad lists, the count of cache list 0 and the last of unsorted, the first is told
 first-of-two : same? (verdict arena (set (set kept 67 2) 142 none32)) (3 ∷ 0 ∷ []) ≡ true
-unfolding arena kept verdict auditOf tileFault listFault flagFault goodFrom listAt tilesOf stacksOf binsOf binOf largeBin
+unfolding arena kept verdict auditBy tileFault listFault flagFault goodFrom listAt tilesOf stacksOf binsOf binOf largeBin
 first-of-two = refl
+
+-- version 1 does not ask for the key, and for all else
+no-key-asked : same?
+    (faultNumbers (auditBy 1 (set arena 3 0) kept) .kind ∷ faultNumbers (auditBy 1 arena (set kept 394 3)) .kind ∷ faultNumbers (auditBy 1 arena (set kept 67 2)) .kind ∷ [])
+    (0 ∷ 0 ∷ 3 ∷ []) ≡ true
+unfolding arena kept auditBy tileFault listFault flagFault goodFrom listAt tilesOf stacksOf binsOf binOf largeBin
+no-key-asked = refl

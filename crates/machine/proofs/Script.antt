@@ -1,4 +1,5 @@
--- Scripts of heaplog run on the machine's heap: the steps alone, without the bytes; an emptying and a joining also each alone, E and J. Definitions only.
+-- Scripts of heaplog run on the machine's heap, with a key of 99: the steps alone, without the bytes; an emptying and a joining also each alone, E and J.
+-- Definitions only.
 use mathlib.Core.List.{List, [], _∷_, _++_}
 use mathlib.Core.Bool.{Bool, true, false}
 use Prim.Native.Nat.{ℕ, _+_, _-_}
@@ -56,7 +57,7 @@ runHeap (l ∷ ls) h = step l h (λ g. runHeap ls g)
 
 unfoldable pub script : ℕ → List Line → Log
 unfolding need usable cacheOf fastOf binOf largeBin recordOf absorb joinNext putDown join releasePast release drain drains consolidate emptying joining step1 moveFast step2 takeLast moveLasts step3 step4 split sortIn splitLone keep turnAt turn swept sweep step5 carve step8 step6 step7 step9 pass again from4 seek grant nextP finish resize
-script n ls = runHeap ls (opened n)
+script n ls = runHeap ls (opened n 99)
 
 abbrev pub outs : Log → List ℕ
 outs (log out h ws) = out

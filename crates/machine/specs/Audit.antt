@@ -1,15 +1,16 @@
--- The audit: the first fault of the heap that words and record spell, in the order record, tiles, lists, flags. Definitions only.
+-- The audit: the first fault of the heap that words and record spell, in the order record, tiles, lists, flags. By the rules of version v, which are the
+-- newest but for a heap that is read from an older image. Definitions only.
 use mathlib.Core.List.{List, [], _∷_, _++_}
 use mathlib.Core.Bool.{Bool, true, false}
 use Prim.Native.Nat.{ℕ, suc, _+_, _*_}
 use lib.Dec.{eqb, ltb, leb}
 use lib.ListN.{length, getD, drop}
-use Rattle.sizes.specs.Limits.{none64, cacheRoom, mostFast, unsorted, leastChunk}
+use Rattle.sizes.specs.Limits.{none64, cacheRoom, mostFast, unsorted, leastChunk, newest}
 use Rattle.sizes.specs.Sizes.{binOf}
-use Rattle.sizes.specs.Layout.{lengthWord, topWord, cacheCount, binLast, backWord}
+use Rattle.sizes.specs.Layout.{lengthWord, topWord, cacheCount, binLast, backWord, keyWord}
 use Rattle.machine.specs.Lists.{both, either, has?, without, minus}
 use Rattle.machine.specs.Heap.{Tile, Heap, starts, endFrom, binned}
-use Rattle.machine.specs.View.{sizeAt, lowAt, tileAt, up, kindAt, view}
+use Rattle.machine.specs.View.{sizeAt, lowAt, tileAt, up, kindAt, keyIn, view}
 use Rattle.machine.specs.declared.{Audited.Audited, ListKind.ListKind}
 use Rattle.machine.specs.declared.ListKind.the-variants.{Cache, Fast, Bin}
 use Rattle.machine.specs.declared.Audited.the-variants as A
@@ -39,12 +40,16 @@ unfoldable pub tileFault : List ℕ → ℕ → ℕ → List Tile → Audited
 tileFault w top o [] = elim (both (tileOk w o) (both (eqb (o + sizeAt w o) (8 * length w)) (eqb top o))) [ true ↦ A.Sound | false ↦ A.Tile o ]
 tileFault w top o (t ∷ ts) = elim (tileOk w o) [ true ↦ tileFault w top (o + t .size) ts | false ↦ A.Tile o ]
 
--- ---- Lists. Whether the chunk c may stand in a list of this kind after the chunk p (none64: first) and n chunks in all: a size of its own,
--- the back link, the order, not more than 7
-abbrev pub mayStand : ListKind → List ℕ → ℕ → ℕ → ℕ → Bool
-mayStand (Cache k) w p n c = both (eqb (sizeAt w c) (32 + 16 * k)) (ltb n cacheRoom)
-mayStand (Fast k) w p n c = both (eqb (sizeAt w c) (32 + 16 * k)) (leb (sizeAt w c) mostFast)
-mayStand (Bin j) w p n c =
+-- ---- Lists. A cached chunk has the key in its second word; version 1 does not ask for it
+abbrev pub keyOk : ℕ → List ℕ → List ℕ → ℕ → Bool
+keyOk v w r c = either (ltb v 2) (eqb (getD w (keyWord c) 0) (keyIn r))
+
+-- Whether the chunk c may stand in a list of this kind after the chunk p (none64: first) and n chunks in all: a size of its own,
+-- the back link, the order, not more than 7, the key
+abbrev pub mayStand : ℕ → ListKind → List ℕ → List ℕ → ℕ → ℕ → ℕ → Bool
+mayStand v (Cache k) w r p n c = both (eqb (sizeAt w c) (32 + 16 * k)) (both (ltb n cacheRoom) (keyOk v w r c))
+mayStand v (Fast k) w r p n c = both (eqb (sizeAt w c) (32 + 16 * k)) (leb (sizeAt w c) mostFast)
+mayStand v (Bin j) w r p n c =
     both (either (eqb j unsorted) (eqb (binOf (sizeAt w c)) j))
     (both (eqb (getD w (backWord c) 0) p)
     (either (ltb j 64) (either (eqb p none64) (leb (sizeAt w c) (sizeAt w p)))))
@@ -56,15 +61,15 @@ mayEnd (Fast k) r p n = true
 mayEnd (Bin j) r p n = eqb (up (getD r (binLast j) 0)) p
 
 -- left: the chunks, the top not among them, that were not met before
-unfoldable pub goodFrom : ListKind → List ℕ → List ℕ → List ℕ → ℕ → ℕ → List ℕ → Bool
-goodFrom k w r left p n [] = mayEnd k r p n
-goodFrom k w r left p n (c ∷ l) = both (both (has? c left) (mayStand k w p n c)) (goodFrom k w r (without c left) c (suc n) l)
+unfoldable pub goodFrom : ℕ → ListKind → List ℕ → List ℕ → List ℕ → ℕ → ℕ → List ℕ → Bool
+goodFrom v k w r left p n [] = mayEnd k r p n
+goodFrom v k w r left p n (c ∷ l) = both (both (has? c left) (mayStand v k w r p n c)) (goodFrom v k w r (without c left) c (suc n) l)
 
 -- list after list, from number i on
-unfoldable pub listFault : List ℕ → List ℕ → ℕ → List ℕ → List (List ℕ) → Audited
-listFault w r i left [] = A.Sound
-listFault w r i left (l ∷ ls) =
-    elim (goodFrom (kindAt i) w r left none64 0 l) [ true ↦ listFault w r (suc i) (minus left l) ls | false ↦ A.List (kindAt i) ]
+unfoldable pub listFault : ℕ → List ℕ → List ℕ → ℕ → List ℕ → List (List ℕ) → Audited
+listFault v w r i left [] = A.Sound
+listFault v w r i left (l ∷ ls) =
+    elim (goodFrom v (kindAt i) w r left none64 0 l) [ true ↦ listFault v w r (suc i) (minus left l) ls | false ↦ A.List (kindAt i) ]
 
 -- ---- Flags, chunk by chunk: P is clear exactly if the chunk before is in a bin, and the previous size is then its size; no binned chunk touches another
 -- or the top; chunk 0 has P set. q: how often the bins have the chunk before, s: its size; b: how often they have this one, the top counting as binned
@@ -80,12 +85,15 @@ flagFault b top o q s (t ∷ ts) = elim (flagOk t q s (b o)) [ true ↦ flagFaul
 abbrev pub lists : Heap → List (List ℕ)
 lists h = h .stacks ++ drop 1 (h .bins)
 
-abbrev pub faultIn : Heap → List ℕ → List ℕ → Audited
-faultIn h w r =
+abbrev pub faultIn : ℕ → Heap → List ℕ → List ℕ → Audited
+faultIn v h w r =
     first (recordFault w r)
     (first (tileFault w (getD r topWord 0) 0 (h .tiles))
-    (first (listFault w r 0 (starts h) (lists h))
+    (first (listFault v w r 0 (starts h) (lists h))
     (flagFault (binned h) (tileAt w (endFrom 0 (h .tiles))) 0 0 0 (h .tiles))))
 
-unfoldable pub auditOf : List ℕ → List ℕ → Audited
-auditOf w r = faultIn (view w r) w r
+unfoldable pub auditBy : ℕ → List ℕ → List ℕ → Audited
+auditBy v w r = faultIn v (view w r) w r
+
+abbrev pub auditOf : List ℕ → List ℕ → Audited
+auditOf w r = auditBy newest w r

@@ -10,7 +10,7 @@ use Rattle.sizes.specs.Limits.{leastArena, mostArena, mostRequest, recordWords,
 use Rattle.sizes.specs.Sizes.{need, usable}
 use Rattle.sizes.specs.Offsets.{memOf, chunkOf}
 use Rattle.machine.specs.Lists.{both}
-use Rattle.machine.specs.Heap.{Heap, opened, sizeOf, live?, recordOf}
+use Rattle.machine.specs.Heap.{Heap, opened, sizeOf, live?, halves, recordOf}
 use Rattle.machine.specs.Writes.{Write, size, apply, Ran, ran}
 use Rattle.machine.specs.Release.{release, emptying, joining}
 use Rattle.machine.specs.Grant.{grant}
@@ -51,7 +51,7 @@ faultNumbers (A.List k) = listNumbers k
 faultNumbers (A.Flag o) = record { no = 0; kind = 6; number = o }
 faultNumbers A.Shape = record { no = 1; kind = 0; number = 0 }
 
--- ---- shape: the arena's length a multiple of 16 from 32 to 262,144; the record 1,572 bytes
+-- ---- shape: the arena's length a multiple of 16 from 32 to 262,144; the record 1,580 bytes
 abbrev pub arenaAllowed? : ℕ → Bool
 arenaAllowed? n = both (eqb (n % 16) 0) (both (leb leastArena n) (leb n mostArena))
 
@@ -87,15 +87,15 @@ onSound a r f = elim (shape? a r) [
   | false ↦ refused a r R.Shape
 ]
 
--- ---- open. A refused one leaves length and counts 0, all else none; a record not of 1,572 bytes is never written
+-- ---- open. A refused one leaves length, counts and key 0, all else none; a record not of 1,580 bytes is never written
 unfoldable pub closedRecord : List ℕ
-closedRecord = (0 ∷ none32 ∷ none32 ∷ []) ++ (replicate 64 none32 ++ (replicate 64 0 ++ replicate 262 none32))
+closedRecord = (0 ∷ none32 ∷ none32 ∷ []) ++ (replicate 64 none32 ++ (replicate 64 0 ++ (replicate 262 none32 ++ halves 0)))
 
--- open writes the length with P at byte 8
-unfoldable pub openCall : List ℕ → List ℕ → After
-openCall a r = elim (eqb (length r) recordBytes) [
+-- open, with the key q, writes the length with P at byte 8
+unfoldable pub openCall : List ℕ → List ℕ → ℕ → After
+openCall a r q = elim (eqb (length r) recordBytes) [
   | true ↦ elim (arenaAllowed? (length a)) [
-    | true ↦ left a (opened (length a)) (size 0 (length a) 1 ∷ []) Done
+    | true ↦ left a (opened (length a) q) (size 0 (length a) 1 ∷ []) Done
     | false ↦ after a (bytes 4 closedRecord) (Refused R.Shape)
   ]
   | false ↦ refused a r R.Shape

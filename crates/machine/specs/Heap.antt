@@ -1,7 +1,7 @@
 -- The abstract heap: tiles, lists, last remainder. What the steps read and change; no memory stands in it. Definitions only.
 use mathlib.Core.List.{List, [], _∷_, _++_, map}
 use mathlib.Core.Bool.{Bool, true, false}
-use Prim.Native.Nat.{ℕ, _+_, _-_}
+use Prim.Native.Nat.{ℕ, _+_, _-_, _/_, _%_, _^_}
 use lib.Dec.{eqb, ltb}
 use lib.ListN.{length, getD, set, take, drop, replicate}
 use Rattle.sizes.specs.Limits.{none32, cacheLists}
@@ -23,6 +23,7 @@ pub record Heap : Type 0 where
   pub stacks : List (List ℕ)
   pub bins : List (List ℕ)
   pub remainder : ℕ
+  pub key : ℕ
 
 abbrev pub stack : Heap → ℕ → List ℕ
 stack h k = getD (h .stacks) k []
@@ -45,16 +46,16 @@ anyFast? h = any? (drop cacheLists (h .stacks))
 
 -- ---- the heap with one part changed
 abbrev pub withTiles : List Tile → Heap → Heap
-withTiles ts h = record { len = h .len; tiles = ts; stacks = h .stacks; bins = h .bins; remainder = h .remainder }
+withTiles ts h = record { len = h .len; tiles = ts; stacks = h .stacks; bins = h .bins; remainder = h .remainder; key = h .key }
 
 abbrev pub withStack : ℕ → List ℕ → Heap → Heap
-withStack k l h = record { len = h .len; tiles = h .tiles; stacks = set (h .stacks) k l; bins = h .bins; remainder = h .remainder }
+withStack k l h = record { len = h .len; tiles = h .tiles; stacks = set (h .stacks) k l; bins = h .bins; remainder = h .remainder; key = h .key }
 
 abbrev pub withBin : ℕ → List ℕ → Heap → Heap
-withBin j l h = record { len = h .len; tiles = h .tiles; stacks = h .stacks; bins = set (h .bins) j l; remainder = h .remainder }
+withBin j l h = record { len = h .len; tiles = h .tiles; stacks = h .stacks; bins = set (h .bins) j l; remainder = h .remainder; key = h .key }
 
 abbrev pub withRemainder : ℕ → Heap → Heap
-withRemainder c h = record { len = h .len; tiles = h .tiles; stacks = h .stacks; bins = h .bins; remainder = c }
+withRemainder c h = record { len = h .len; tiles = h .tiles; stacks = h .stacks; bins = h .bins; remainder = c; key = h .key }
 
 -- ---- tiles: where they start and end, those before c and those from c on
 abbrev pub endFrom : ℕ → List Tile → ℕ
@@ -125,14 +126,18 @@ binFrom j c (l ∷ ls) = elim (eqb (cnt c l) 0) [ true ↦ binFrom (j + 1) c ls 
 abbrev pub binHas : Heap → ℕ → ℕ
 binHas h c = binFrom 0 c (h .bins)
 
--- ---- a newly opened arena: one tile, the top
-abbrev pub opened : ℕ → Heap
-opened n = record { len = n; tiles = []; stacks = replicate 74 []; bins = replicate 127 []; remainder = none32 }
+-- ---- a newly opened arena of n bytes, with the key q: one tile, the top
+abbrev pub opened : ℕ → ℕ → Heap
+opened n q = record { len = n; tiles = []; stacks = replicate 74 []; bins = replicate 127 []; remainder = none32; key = q }
 
--- ---- the record's 393 words
+-- ---- the record's 395 words
 abbrev pub ends : List (List ℕ) → List ℕ
 ends [] = []
 ends (l ∷ ls) = hd none32 l ∷ lst none32 l ∷ ends ls
+
+-- a 64-bit number as two words, the low one first
+abbrev pub halves : ℕ → List ℕ
+halves q = q % 2 ^ 32 ∷ q / 2 ^ 32 ∷ []
 
 unfoldable pub recordOf : Heap → List ℕ
 recordOf h =
@@ -140,4 +145,4 @@ recordOf h =
     ++ (map (λ l. hd none32 l) (take cacheLists (h .stacks))
     ++ (map (λ l. length l) (take cacheLists (h .stacks))
     ++ (map (λ l. hd none32 l) (drop cacheLists (h .stacks))
-    ++ ends (drop 1 (h .bins)))))
+    ++ (ends (drop 1 (h .bins)) ++ halves (h .key)))))

@@ -4,7 +4,7 @@ use Prim.Native.Nat.{ℕ, _+_, _-_}
 use Rattle.sizes.specs.Limits.{none64}
 use Rattle.machine.specs.Lists.{hd, lst, tl, pre, post}
 use Rattle.machine.specs.Heap.{Tile, tile, Heap, stack, bin, withTiles, withStack, withBin, withRemainder, upTo, edit, topOf, sizeOf, pOf, next}
-use Rattle.machine.specs.Writes.{Write, size, note, link, fwd, back, Ran, ran, does}
+use Rattle.machine.specs.Writes.{Write, size, note, link, fwd, back, key, Ran, ran, does, _>>=_}
 use Rattle.machine.specs.declared.{Got.Got, Got.the-variants.At}
 
 -- ---- stacks: the only place that writes a stack's link
@@ -14,12 +14,16 @@ push k c h = does (withStack k (c ∷ stack h k) h) (link c (hd none64 (stack h 
 abbrev pub pop : ℕ → Heap → Ran Got
 pop k h = ran (withStack k (tl (stack h k)) h) [] (At (hd none64 (stack h k)))
 
--- the cache's push and take
+-- the cache's push and take: a cached chunk has the key in its second word, and 0 there when it is taken (document 02, (viii))
 abbrev pub pushCache : ℕ → ℕ → Heap → Ran (Unit {0})
-pushCache k c h = push k c h
+pushCache k c h = do
+  h ← push k c h
+  does h (key c (h .key) ∷ [])
 
 abbrev pub takeCache : ℕ → Heap → Ran Got
-takeCache k h = pop k h
+takeCache k h = do
+  h₁ ← pop k h
+  ran h₁ (key (hd none64 (stack h k)) 0 ∷ []) (At (hd none64 (stack h k)))
 
 -- ---- bins: the last of xs gets c as its forward link, the first of ys as its back link; nothing where there is none
 abbrev pub fwdTo : List ℕ → ℕ → List Write

@@ -9,7 +9,8 @@ use Rattle.sizes.specs.Sizes.{cacheOf, fastOf}
 use Rattle.machine.specs.Lists.{both}
 use Rattle.machine.specs.Heap.{Heap, stack, cache, fastAt, anyFast?, binned, binHas, topOf, sizeOf, pOf, next, before}
 use Rattle.machine.specs.Writes.{Ran, ran, does, giving, more, _>>=_}
-use Rattle.machine.specs.Primitives.{push, pop, pushCache, putFirst, unlink, swallow, clearP, toTop, setRemainder}
+use Rattle.machine.specs.Primitives.{push, pop, pushCache, takeCache, putFirst, unlink, swallow, clearP, toTop, setRemainder}
+use Rattle.machine.specs.declared.Got.{Got}
 
 -- x leaves its bin, and c takes in the chunk after it
 unfoldable pub absorb : ℕ → ℕ → Heap → Ran (Unit {0})
@@ -41,24 +42,24 @@ join c h = elim (eqb (pOf h c) 0) [
     putDown c h₁
 ]
 
--- stack k, whose chunks are l, from its head: take the chunk out, and do f with it
-unfoldable pub drain : (ℕ → Heap → Ran ℕ) → ℕ → List ℕ → Heap → Ran (Unit {0})
-drain f k [] h = does h []
-drain f k (c ∷ l) h = do
-  h ← pop k h
+-- stack k, whose chunks are l, from its head: take the chunk out, by t, and do f with it
+unfoldable pub drain : (ℕ → Heap → Ran Got) → (ℕ → Heap → Ran ℕ) → ℕ → List ℕ → Heap → Ran (Unit {0})
+drain t f k [] h = does h []
+drain t f k (c ∷ l) h = do
+  h ← t k h
   h ← f c h
-  drain f k l h
+  drain t f k l h
 
 -- n stacks, from number k on
-unfoldable pub drains : (ℕ → Heap → Ran ℕ) → ℕ → ℕ → Heap → Ran (Unit {0})
-drains f zero k h = does h []
-drains f (suc n) k h = do
-  h ← drain f k (stack h k) h
-  drains f n (suc k) h
+unfoldable pub drains : (ℕ → Heap → Ran Got) → (ℕ → Heap → Ran ℕ) → ℕ → ℕ → Heap → Ran (Unit {0})
+drains t f zero k h = does h []
+drains t f (suc n) k h = do
+  h ← drain t f k (stack h k) h
+  drains t f n (suc k) h
 
 -- consolidate: fast lists 0 to 9, each from its head: take the chunk out, and join
 unfoldable pub consolidate : Heap → Ran (Unit {0})
-consolidate h = drains join fastLists (fastAt 0) h
+consolidate h = drains pop join fastLists (fastAt 0) h
 
 -- when the joining yields 65,536 bytes or more, the top included when it was joined, and a fast list is non-empty, it consolidates (document 02, (vi))
 abbrev pub joined : Ran ℕ → Ran ℕ
@@ -75,9 +76,9 @@ release c h = elim (both (leb (sizeOf h c) mostCached) (ltb (length (cache h (ca
   | false ↦ releasePast c h
 ]
 
--- emptying: cache lists 0 to 63, each from its head: release past the cache, to fast lists or joined
+-- emptying: cache lists 0 to 63, each from its head: taken, and released past the cache, to fast lists or joined
 unfoldable pub emptying : Heap → Ran (Unit {0})
-emptying h = drains releasePast cacheLists 0 h
+emptying h = drains takeCache releasePast cacheLists 0 h
 
 -- joining: consolidate, clear the last remainder
 unfoldable pub joining : Heap → Ran (Unit {0})

@@ -1,11 +1,11 @@
 -- The heap that words and record spell, read from any words at all; n bounds how far a reading goes. Definitions only.
 use mathlib.Core.List.{List, [], _∷_}
 use mathlib.Core.Bool.{true, false}
-use Prim.Native.Nat.{ℕ, zero, suc, _+_, _-_, _*_, _/_, _%_}
+use Prim.Native.Nat.{ℕ, zero, suc, _+_, _-_, _*_, _/_, _%_, _^_}
 use lib.Dec.{eqb, ltb}
 use lib.ListN.{length, getD}
 use Rattle.sizes.specs.Limits.{none64, none32}
-use Rattle.sizes.specs.Layout.{remainderWord, cacheHead, fastHead, binFirst, prevWord, sizeWord, fwdWord}
+use Rattle.sizes.specs.Layout.{remainderWord, cacheHead, fastHead, binFirst, keyLow, keyHigh, prevWord, sizeWord, fwdWord}
 use Rattle.machine.specs.Lists.{tabulate}
 use Rattle.machine.specs.Heap.{Tile, tile, Heap}
 use Rattle.machine.specs.declared.{ListKind.ListKind, ListKind.the-variants.Cache, ListKind.the-variants.Fast, ListKind.the-variants.Bin}
@@ -55,5 +55,16 @@ stacksOf w r = tabulate 74 (listAt w r) 0
 unfoldable pub binsOf : List ℕ → List ℕ → List (List ℕ)
 binsOf w r = tabulate 126 (listAt w r) 74
 
+-- the record's key
+abbrev pub keyIn : List ℕ → ℕ
+keyIn r = getD r keyLow 0 + 2 ^ 32 * getD r keyHigh 0
+
 abbrev pub view : List ℕ → List ℕ → Heap
-view w r = record { len = 8 * length w; tiles = tilesOf w; stacks = stacksOf w r; bins = [] ∷ binsOf w r; remainder = getD r remainderWord 0 }
+view w r = record {
+  len = 8 * length w;
+  tiles = tilesOf w;
+  stacks = stacksOf w r;
+  bins = [] ∷ binsOf w r;
+  remainder = getD r remainderWord 0;
+  key = keyIn r;
+}

@@ -14,6 +14,7 @@ pub data Write : Type 0 where
   link : ℕ → ℕ → Write  -- c's forward link in a cache or fast list
   fwd : ℕ → ℕ → Write  -- c's forward link in a bin
   back : ℕ → ℕ → Write  -- c's back link in a bin
+  key : ℕ → ℕ → Write  -- c's second usable word in a cache list: the key, and 0 when c is taken
   copy : ℕ → ℕ → ℕ → Write  -- c's usable word i: that of the chunk given second
 
 -- whose field it is, which of its 8-byte words, and what goes there; only a copy asks what the words were
@@ -23,6 +24,7 @@ who (note c s) = c
 who (link c x) = c
 who (fwd c x) = c
 who (back c x) = c
+who (key c x) = c
 who (copy c x i) = c
 
 abbrev pub field : Write → ℕ
@@ -31,6 +33,7 @@ field (note c s) = 0
 field (link c x) = 2
 field (fwd c x) = 2
 field (back c x) = 3
+field (key c x) = 3
 field (copy c x i) = 2 + i
 
 abbrev pub value : Write → List ℕ → ℕ
@@ -39,6 +42,7 @@ value (note c s) w = s
 value (link c x) w = x
 value (fwd c x) w = x
 value (back c x) w = x
+value (key c x) w = x
 value (copy c x i) w = getD w (x / 8 + (2 + i)) 0
 
 -- the arena's words after a write, and after several

@@ -12,7 +12,7 @@ use Rattle.machine.specs.Release.{absorb, joinNext, putDown, join, releasePast,
 use Rattle.machine.specs.Grant.{step1, moveFast, step2, takeLast, moveLasts, step3, step4, split, sortIn, splitLone, keep, turnAt, turn, swept, sweep, step5, carve, step8, step6, step7, step9, pass, again, from4, seek, grant}
 use Rattle.machine.specs.Resize.{nextP, finish, resize}
 use Rattle.machine.specs.View.{listAt, tilesOf, stacksOf, binsOf}
-use Rattle.machine.specs.Audit.{tileFault, goodFrom, listFault, flagFault, auditOf}
+use Rattle.machine.specs.Audit.{tileFault, goodFrom, listFault, flagFault, auditBy}
 use Rattle.machine.specs.Calls.{After, after, answerNumbers, auditCall, closedRecord, openCall, grantCall, releaseCall, jobCall, emptyingCall, joiningCall, joinedAfter, resizeCall}
 use Rattle.machine.specs.declared.{Answer.Answer}
 use Rattle.machine.proofs.Script.{Line, G, R, S, E, J, Z, same?}
@@ -42,10 +42,10 @@ abbrev pub runBytes : List Line → List ℕ → List ℕ → Printed
 runBytes [] a r = printed [] a r
 runBytes (l ∷ ls) a r = goOn (exampleCall l a r) (λ b s. runBytes ls b s)
 
--- opened on an arena of n bytes, all equal to x, and a record of bytes x
+-- opened with a key of 99 on an arena of n bytes, all equal to x, and a record of bytes x
 unfoldable pub scriptBytes : ℕ → ℕ → List Line → Printed
-unfolding number numberFrom words digits bytes arenaWords need usable cacheOf fastOf binOf largeBin recordOf absorb joinNext putDown join releasePast release drain drains consolidate emptying joining step1 moveFast step2 takeLast moveLasts step3 step4 split sortIn splitLone keep turnAt turn swept sweep step5 carve step8 step6 step7 step9 pass again from4 seek grant nextP finish resize listAt tilesOf stacksOf binsOf tileFault goodFrom listFault flagFault auditOf auditCall closedRecord openCall grantCall releaseCall jobCall resizeCall
-scriptBytes x n ls = goOn (openCall (replicate n x) (replicate 1572 x)) (λ b s. runBytes ls b s)
+unfolding number numberFrom words digits bytes arenaWords need usable cacheOf fastOf binOf largeBin recordOf absorb joinNext putDown join releasePast release drain drains consolidate emptying joining step1 moveFast step2 takeLast moveLasts step3 step4 split sortIn splitLone keep turnAt turn swept sweep step5 carve step8 step6 step7 step9 pass again from4 seek grant nextP finish resize listAt tilesOf stacksOf binsOf tileFault goodFrom listFault flagFault auditBy auditCall closedRecord openCall grantCall releaseCall jobCall resizeCall
+scriptBytes x n ls = goOn (openCall (replicate n x) (replicate 1580 x) 99) (λ b s. runBytes ls b s)
 
 abbrev pub outOf : Printed → List ℕ
 outOf (printed out a r) = out

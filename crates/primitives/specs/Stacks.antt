@@ -7,21 +7,21 @@ use native.Mathlib.Omega.{arith}
 use lib.ListN.{length, getD, set}
 use Rattle.le.specs.Arena.{arenaWords}
 use Rattle.sizes.specs.Limits.{none64, none32}
-use Rattle.sizes.specs.Layout.{cacheHead, cacheCount, fastHead, fwdWord}
+use Rattle.sizes.specs.Layout.{cacheHead, cacheCount, fastHead, keyLow, keyHigh, fwdWord}
 use Rattle.machine.specs.Lists.{hd, tl, some?}
 use Rattle.machine.specs.Heap.{Heap, stack, fastAt}
-use Rattle.machine.specs.Writes.{fwd, put}
-use Rattle.machine.specs.Primitives.{push, pop}
-use Rattle.machine.specs.View.{up}
+use Rattle.machine.specs.Writes.{fwd, key, put}
+use Rattle.machine.specs.Primitives.{push, pop, pushCache, takeCache}
+use Rattle.machine.specs.View.{up, keyIn}
 use Rattle.machine.specs.declared.{Got.Got, Got.the-variants.At}
 use Rattle.sound.specs.Relation.{Loose}
 use Rattle.chunk_fields.specs.Links.{down}
-use Rattle.sound.specs.RecordOf.{record-length, record-cacheHead, record-cacheCount, record-fastHead, record-withCache, record-withFast}
+use Rattle.sound.specs.RecordOf.{record-length, record-words, record-cacheHead, record-cacheCount, record-fastHead, record-withCache, record-withFast}
 use Rattle.primitives.specs.Follow.{Ok, Gave}
 use Rattle.primitives.specs.Chunks.{Chunks, Inside, in-bytes, loose-chunk, stack-chunk, up-hd, Head, head}
 
 module _ (h : Heap) (w r : List ℕ) (o : Ok h w r) where
-  pub ok-length : length r ≡ 393
+  pub ok-length : length r ≡ 395
   ok-length = ap length (o .rec) ∙ record-length h (o .shape .stacked74) (o .shape .binned127)
 
   pub ok-stack : (k : ℕ) → Chunks w (stack h k)
@@ -35,6 +35,11 @@ module _ (h : Heap) (w r : List ℕ) (o : Ok h w r) where
 
   pub ok-fastHead : (k : ℕ) → k < 10 → getD r (fastHead k) 0 ≡ hd none32 (stack h (fastAt k))
   ok-fastHead k hk = ap (λ (r : List ℕ). getD r (fastHead k) 0) (o .rec) ∙ record-fastHead h (o .shape .stacked74) (o .shape .binned127) k hk
+
+  pub ok-key : keyIn r ≡ h .key
+  ok-key =
+      let m = record-words h (o .shape .stacked74) (o .shape .binned127) in
+      omega (arith, ap (λ (r : List ℕ). getD r keyLow 0) (o .rec) ∙ m .low, ap (λ (r : List ℕ). getD r keyHigh 0) (o .rec) ∙ m .high)
 
   pub ok-head : (k : ℕ) → some? (stack h k) ≡ true → Head w (stack h k)
   ok-head k e = head w (stack h k) e (ok-stack k) (o .mem .chains k)
@@ -50,14 +55,15 @@ module _ (h : Heap) (w r : List ℕ) (o : Ok h w r) where
   taken-says k c e q = ap (λ (c : ℕ). At c) (ok-head k e .same ∙ sym q)
 
   -- ---- cache lists
-  pub push-cache-gave : (k c x : ℕ) (v q : List ℕ) → k < 64 → x ≡ up (getD r (cacheHead k) 0)
-      → v ≡ put (fwd c x) w → q ≡ set (set r (cacheHead k) c) (cacheCount k) (getD r (cacheCount k) 0 + 1) → Gave (Unit {0}) (push k c h) tt w v q
-  push-cache-gave k c x v q hk d e f =
+  pub push-cache-gave : (k c x y : ℕ) (u v q : List ℕ) → k < 64 → x ≡ up (getD r (cacheHead k) 0)
+      → u ≡ put (fwd c x) w → y ≡ keyIn r → v ≡ put (key c y) u → q ≡ set (set r (cacheHead k) c) (cacheCount k) (getD r (cacheCount k) 0 + 1) → Gave (Unit {0}) (pushCache k c h) tt w v q
+  push-cache-gave k c x y u v q hk d e y-is g f =
       let l = c ∷ stack h k in
       let n : getD r (cacheCount k) 0 + 1 ≡ length l = omega (arith, ok-cacheCount k hk) in
       record {
         says = refl;
-        bytes = e ∙ ap (λ (x : ℕ). put (fwd c x) w) (d ∙ ap up (ok-cacheHead k hk) ∙ up-hd w (stack h k) (ok-stack k));
+        bytes = g ∙ ap (λ (y : ℕ). put (key c y) u) (y-is ∙ ok-key)
+            ∙ ap (put (key c (h .key))) (e ∙ ap (λ (x : ℕ). put (fwd c x) w) (d ∙ ap up (ok-cacheHead k hk) ∙ up-hd w (stack h k) (ok-stack k)));
         rec = f ∙ ap (λ (n : ℕ). set (set r (cacheHead k) c) (cacheCount k) n) n ∙ ap (λ (r : List ℕ). set (set r (cacheHead k) c) (cacheCount k) (length l)) (o .rec)
             ∙ sym (record-withCache h (o .shape .stacked74) (o .shape .binned127) k l hk);
       }
@@ -68,15 +74,15 @@ module _ (h : Heap) (w r : List ℕ) (o : Ok h w r) where
   pub cache-some : (k : ℕ) → k < 64 → some? (stack h k) ≡ true → 1 ≤ getD r (cacheCount k) 0
   cache-some k hk e = omega (arith, ok-cacheCount k hk, ok-head k e .more)
 
-  pub take-cache-gave : (k c x y : ℕ) (q : List ℕ) → k < 64 → some? (stack h k) ≡ true → c ≡ getD r (cacheHead k) 0 → x ≡ getD w (fwdWord c) 0 → y ≡ down x
-      → q ≡ set (set r (cacheHead k) y) (cacheCount k) (getD r (cacheCount k) 0 - 1) → Gave Got (pop k h) (At c) w w q
-  take-cache-gave k c x y q hk e z ex ey f =
+  pub take-cache-gave : (k c x y : ℕ) (v q : List ℕ) → k < 64 → some? (stack h k) ≡ true → c ≡ getD r (cacheHead k) 0 → x ≡ getD w (fwdWord c) 0 → y ≡ down x
+      → q ≡ set (set r (cacheHead k) y) (cacheCount k) (getD r (cacheCount k) 0 - 1) → v ≡ put (key c 0) w → Gave Got (takeCache k h) (At c) w v q
+  take-cache-gave k c x y v q hk e z ex ey f b =
       let l = tl (stack h k) in
       let n : getD r (cacheCount k) 0 - 1 ≡ length l = omega (arith, ok-cacheCount k hk, ok-head k e .more) in
       let g : c ≡ hd none32 (stack h k) = z ∙ ok-cacheHead k hk in
       record {
         says = taken-says k c e g;
-        bytes = refl;
+        bytes = b ∙ ap (λ (c : ℕ). put (key c 0) w) (g ∙ sym (ok-head k e .same));
         rec = f ∙ ap (λ (y : ℕ). set (set r (cacheHead k) y) (cacheCount k) (getD r (cacheCount k) 0 - 1)) (taken-next k c x y e g ex ey)
             ∙ ap (λ (n : ℕ). set (set r (cacheHead k) (hd none32 l)) (cacheCount k) n) n
             ∙ ap (λ (r : List ℕ). set (set r (cacheHead k) (hd none32 l)) (cacheCount k) (length l)) (o .rec)

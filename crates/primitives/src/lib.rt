@@ -2,9 +2,11 @@
 use chunk_fields::Link;
 use chunk_fields::back_at;
 use chunk_fields::fwd_at;
+use chunk_fields::key_in;
 use chunk_fields::link_of;
 use chunk_fields::set_back;
 use chunk_fields::set_fwd;
+use chunk_fields::set_key;
 use chunk_fields::set_note;
 use chunk_fields::set_size;
 use chunk_fields::size_at;
@@ -26,7 +28,7 @@ ghost use Rattle.le.specs.Arena.{arenaWords};
 ghost use Rattle.machine.specs.Lists.{some?};
 ghost use Rattle.machine.specs.Heap.{Heap, stack, fastAt};
 ghost use Rattle.machine.specs.Writes.{size, note, put};
-ghost use Rattle.machine.specs.Primitives.{push, pop, linkIn, putFirst, unlink};
+ghost use Rattle.machine.specs.Primitives.{push, pop, pushCache, takeCache, linkIn, putFirst, unlink};
 ghost use Rattle.machine.specs.View.{sizeAt};
 ghost use Rattle.machine.specs.declared.{Got.Got, Got.the-variants.At};
 ghost use Rattle.sizes.specs.Sizes.{cacheOf};
@@ -38,21 +40,22 @@ ghost use Rattle.primitives.specs.Room.{cacheTakes};
 ghost use Rattle.primitives.specs.Places.{Gap, InBin, Home, Between, Binned};
 ghost use Rattle.primitives.specs.Ends.{Leads, linkFwd, linkBack, linkEnd, binBy};
 
-// c goes on cache list k, which has room.
+// c goes on cache list k, which has room, with the key in its second word.
 pub fn push_cache(a: &mut [u8], r: &mut [u32], k: usize, c: Chunk)
     requires { ⌜ (k < 64) × Has (λ h. Loose h (c .0) × (length (stack h k) < 7)) (arenaWords (now a)) (now r) ⌝ }
-    ensures { λ _. ⌜ Does (Unit {0}) (λ h. Loose h (c .0) × (length (stack h k) < 7)) (push k (c .0)) (arenaWords (now (a .entry))) (now (r .entry)) tt (arenaWords (now (a .exit))) (now (r .exit)) ⌝ }
+    ensures { λ _. ⌜ Does (Unit {0}) (λ h. Loose h (c .0) × (length (stack h k) < 7)) (pushCache k (c .0)) (arenaWords (now (a .entry))) (now (r .entry)) tt (arenaWords (now (a .exit))) (now (r .exit)) ⌝ }
 {
     let x = r[CACHE_HEADS + k];
     let n = r[CACHE_COUNTS + k];
     set_fwd(a, c, link_of(x));
+    set_key(a, c, key_in(r));
     r[CACHE_HEADS + k] = c.0 as u32;
     r[CACHE_COUNTS + k] = n + 1;
 }
 
 // Whether the cache takes one more chunk of size z: up to 1,040, and its list has fewer than 7.
 pub fn cache_takes(r: &[u32], z: u64) -> bool
-    requires { ⌜ (32 ≤ z) × (length (now r) ≡ 393) ⌝ }
+    requires { ⌜ (32 ≤ z) × (length (now r) ≡ 395) ⌝ }
     ensures { λ t. ⌜ t ≡ cacheTakes (getD (now (r .entry)) (cacheCount (cacheOf z)) 0) z ⌝ }
 {
     if MOST_CACHED < z {
@@ -61,15 +64,16 @@ pub fn cache_takes(r: &[u32], z: u64) -> bool
     r[CACHE_COUNTS + sizes::cache_list(z)] < CACHE_ROOM
 }
 
-// The head of cache list k, which has one, is taken.
-pub fn take_cache(a: &[u8], r: &mut [u32], k: usize) -> Chunk
+// The head of cache list k, which has one, is taken, with 0 where its key was.
+pub fn take_cache(a: &mut [u8], r: &mut [u32], k: usize) -> Chunk
     requires { ⌜ (k < 64) × Has (λ h. some? (stack h k) ≡ true) (arenaWords (now a)) (now r) ⌝ }
-    ensures { λ c. ⌜ Does Got (λ h. some? (stack h k) ≡ true) (pop k) (arenaWords (now (a .entry))) (now (r .entry)) (At (c .0)) (arenaWords (now (a .entry))) (now (r .exit)) ⌝ }
+    ensures { λ c. ⌜ Does Got (λ h. some? (stack h k) ≡ true) (takeCache k) (arenaWords (now (a .entry))) (now (r .entry)) (At (c .0)) (arenaWords (now (a .exit))) (now (r .exit)) ⌝ }
 {
     let c = Chunk(r[CACHE_HEADS + k] as u64);
     let n = r[CACHE_COUNTS + k];
     r[CACHE_HEADS + k] = word_of(fwd_at(a, c));
     r[CACHE_COUNTS + k] = n - 1;
+    set_key(a, c, 0);
     c
 }
 
@@ -94,7 +98,7 @@ pub fn take_fast(a: &[u8], r: &mut [u32], k: usize) -> Chunk
 
 // The forward link of p, or the first of bin j where p is none, becomes x.
 fn link_fwd(a: &mut [u8], r: &mut [u32], j: usize, p: Link, x: Link)
-    requires { ⌜ (j ≤ 126) × (length (now r) ≡ 393) × Leads (length (now a)) (p .0) × (down (x .0) < 2 ^ 32) ⌝ }
+    requires { ⌜ (j ≤ 126) × (length (now r) ≡ 395) × Leads (length (now a)) (p .0) × (down (x .0) < 2 ^ 32) ⌝ }
     ensures { λ _. ⌜ (arenaWords (now (a .exit)) ≡ linkFwd (arenaWords (now (a .entry))) (p .0) (x .0)) × (now (r .exit) ≡ linkEnd (now (r .entry)) (binFirst j) (p .0) (x .0)) ⌝ }
 {
     if p.0 == NONE64 {
@@ -107,7 +111,7 @@ fn link_fwd(a: &mut [u8], r: &mut [u32], j: usize, p: Link, x: Link)
 
 // The back link of n, or the last of bin j where n is none, becomes x.
 fn link_back(a: &mut [u8], r: &mut [u32], j: usize, n: Link, x: Link)
-    requires { ⌜ (j ≤ 126) × (length (now r) ≡ 393) × Leads (length (now a)) (n .0) × (down (x .0) < 2 ^ 32) ⌝ }
+    requires { ⌜ (j ≤ 126) × (length (now r) ≡ 395) × Leads (length (now a)) (n .0) × (down (x .0) < 2 ^ 32) ⌝ }
     ensures { λ _. ⌜ (arenaWords (now (a .exit)) ≡ linkBack (arenaWords (now (a .entry))) (n .0) (x .0)) × (now (r .exit) ≡ linkEnd (now (r .entry)) (binLast j) (n .0) (x .0)) ⌝ }
 {
     if n.0 == NONE64 {

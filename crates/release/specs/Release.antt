@@ -127,9 +127,9 @@ module _ (h : Heap) (w r : List ℕ) (c z : ℕ) (o : Ok h w r) (lo : Loose h c)
         cached-is : release c h ≡ giving 0 (pushCache k c h)
         cached-is = release-cached c z h size-is (takes-is h w r z o t et ∙ y) ∙ ap (λ (k : ℕ). giving 0 (pushCache k c h)) (sym ek)
 
-        module _ {v q : List ℕ} (D : Does (Unit {0}) (λ h. Loose h c × (length (stack h k) < 7)) (push k c) w r tt v q) where
+        module _ {v q : List ℕ} (D : Does (Unit {0}) (λ h. Loose h c × (length (stack h k) < 7)) (pushCache k c) w r tt v q) where
           pub cached-gave : Gave (Unit {0}) (giving tt (release c h)) tt w v q
-          cached-gave = gave-giving (release c h) 0 tt (gave-by cached-is (gave-giving (push k c h) tt 0 (D .does h o takes-loose)))
+          cached-gave = gave-giving (release c h) 0 tt (gave-by cached-is (gave-giving (pushCache k c h) tt 0 (D .does h o takes-loose)))
 
           pub cached-only : k < 64 → CacheOnly k r q
           cached-only l = cache-only h k (c ∷ stack h k) r q (o .shape) l (o .rec) (D .does h o takes-loose .rec)

@@ -34,11 +34,11 @@ andOn (step s o) f = behind o (f s)
 
 -- before the first line nothing is open; lent bytes and record are zeros
 abbrev pub beforeAll : Run
-beforeAll = run (replicate 49152 0) (replicate 1572 0) [] 0 0 false
+beforeAll = run (replicate 49152 0) (replicate 1580 0) [] 0 0 false
 
 -- ---- the call of a line
 abbrev pub lineCall : List ℕ → List ℕ → Line → After
-lineCall a r (Open n) = openCall a r
+lineCall a r (Open n) = openCall a r 0
 lineCall a r (Grant n) = grantCall a r n
 lineCall a r (Release m) = releaseCall a r m
 lineCall a r (Resize m n) = resizeCall a r m n
@@ -110,7 +110,7 @@ runOf a r s = run a r (kept (s .text)) (s .lines) (s .opened) (s .ended)
 -- ---- what the steps ask of the lent bytes: room for the longest arena, and a record
 pub record Buffers (a r : List ℕ) : Type 0 where
   pub arenaRoom : length a ≡ 49152
-  pub recordRoom : length r ≡ 1572
+  pub recordRoom : length r ≡ 1580
 
 -- a state whose arena fits, and that has printed at most so many bytes
 pub record Within (s : Log) (n : ℕ) : Type 0 where

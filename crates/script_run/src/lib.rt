@@ -73,7 +73,7 @@ fn call(arena: &mut [u8], control: &mut [u8], line: Line) -> Answer
 {
     match line {
         Line::Open(_) => {
-            return calls::open(arena, control);
+            return calls::open(arena, control, 0);
         }
         Line::Grant(n) => {
             return calls::grant(arena, control, n as u64);

@@ -1,7 +1,8 @@
 -- Which word of the record is what, and which word of the arena a field of a chunk is. Definitions only.
 use Prim.Native.Nat.{ℕ, _+_, _*_, _/_}
 
--- ---- the record's words: length, top, last remainder; 64 cache heads, 64 counts; 10 fast heads; first and last of bins 1 to 126
+-- ---- the record's words: length, top, last remainder; 64 cache heads, 64 counts; 10 fast heads; first and last of bins 1 to 126; the key's
+-- low and high half
 abbrev pub lengthWord : ℕ
 lengthWord = 0
 
@@ -26,7 +27,14 @@ binFirst j = 139 + 2 * j
 abbrev pub binLast : ℕ → ℕ
 binLast j = 140 + 2 * j
 
--- ---- the arena's 8-byte words: the chunk at c has its previous size at c, its size word at c + 8, its links at c + 16 and c + 24
+abbrev pub keyLow : ℕ
+keyLow = 393
+
+abbrev pub keyHigh : ℕ
+keyHigh = 394
+
+-- ---- the arena's 8-byte words: the chunk at c has its previous size at c, its size word at c + 8, its links at c + 16 and c + 24;
+-- in a cache list the key stands at c + 24, where a bin has the back link
 abbrev pub prevWord : ℕ → ℕ
 prevWord c = c / 8
 
@@ -38,3 +46,6 @@ fwdWord c = c / 8 + 2
 
 abbrev pub backWord : ℕ → ℕ
 backWord c = c / 8 + 3
+
+abbrev pub keyWord : ℕ → ℕ
+keyWord c = c / 8 + 3

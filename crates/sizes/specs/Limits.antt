@@ -49,10 +49,14 @@ lastBin = 126
 
 -- the record's words, and its bytes
 abbrev pub recordWords : ℕ
-recordWords = 393
+recordWords = 395
 
 abbrev pub recordBytes : ℕ
-recordBytes = 1572
+recordBytes = 1580
+
+-- the newest version of the rules, and of an image
+abbrev pub newest : ℕ
+newest = 2
 
 -- no chunk: as a link in the arena, and as a word of the record
 abbrev pub none64 : ℕ

@@ -1,4 +1,5 @@
-// Which word of the record is what: length, top, last remainder; 64 cache heads, 64 counts; 10 fast heads; first and last of bins 1 to 126.
+// Which word of the record is what: length, top, last remainder; 64 cache heads, 64 counts; 10 fast heads; first and last of bins 1 to 126;
+// the key's low and high half.
 // The names are those of specs/Layout.antt. Assumes nothing.
 ghost use mathlib.Core.Path.{_≡_};
 ghost use Prim.Native.Nat.{_-_, _≤_};
@@ -16,6 +17,10 @@ pub const CACHE_HEADS: usize = 3;
 pub const CACHE_COUNTS: usize = 67;
 
 pub const FAST_HEADS: usize = 131;
+
+pub const KEY_LOW: usize = 393;
+
+pub const KEY_HIGH: usize = 394;
 
 // The word of the first chunk of bin j, and of its last.
 pub fn bin_first(j: usize) -> usize

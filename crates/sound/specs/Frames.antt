@@ -178,6 +178,9 @@ rebin h w j l L ws s m hj sub lw ds db own =
           let sb : Sub (bin h i) S = λ x k. in-starts h x s (omega (arith, cnt-le-all x (h .bins) i)) in
           links-cong w v none64 (bin h i) none64 (ag 2 (bin h i) (omega arith) sb (λ x k. db x k i e))
           (ag 3 (bin h i) (omega arith) sb (λ x k. db x k i e)) (m .blinks i));
+      keys = λ z k x p i. ag 3 (stack h k) (omega arith) (λ y n. in-starts h y s (omega (arith, cnt-le-all y (h .stacks) k)))
+          (λ y n. omega (arith, ds y n, cnt-le-all y (h .stacks) k)) x i ∙ m .keys z k x p i;
+      key64 = m .key64;
     }
 
 -- ---- the tiles change: only size words and notes are written
@@ -197,6 +200,8 @@ retile h w ts ws m s hw k =
       blinks = λ i.
           let sb : Sub (bin h i) S = λ x k. in-starts h′ x s (omega (arith, cnt-le-all x (h .bins) i)) in
           links-cong w v none64 (bin h i) none64 (ag 2 (bin h i) (omega arith) (omega arith) sb) (ag 3 (bin h i) (omega arith) (omega arith) sb) (m .blinks i);
+      keys = λ z k x p i. ag 3 (stack h k) (omega arith) (omega arith) (λ y n. in-starts h′ y s (omega (arith, cnt-le-all y (h .stacks) k))) x i ∙ m .keys z k x p i;
+      key64 = m .key64;
     }
 
 -- ---- writes in a range of words

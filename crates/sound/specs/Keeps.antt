@@ -3,7 +3,7 @@
 use mathlib.Core.Path.{_≡_, refl}
 use mathlib.Core.List.{List, [], _∷_}
 use mathlib.Core.Bool.{Bool, false}
-use Prim.Native.Nat.{ℕ, _+_, _*_, _%_, _≤_, _<_}
+use Prim.Native.Nat.{ℕ, _+_, _*_, _%_, _≤_, _<_, _^_}
 use lib.ListN.{length}
 use Rattle.machine.specs.Lists.{cnt}
 use Rattle.machine.specs.Heap.{Heap, stack, bin, sizeOf, opened, recordOf}
@@ -16,7 +16,7 @@ use Rattle.sound.specs.Ends.{Ends}
 use Rattle.sound.specs.Moves.{nil, one, any}
 use Rattle.sound.specs.Leaves.{Leaves, leaves-ends, gave, Still, Cached, Found, still-here}
 use Rattle.sound.specs.Release.{releasePast-leaves, release-leaves}
-use Rattle.sound.specs.Drain.{drain-leaves, drains-leaves, consolidate-leaves}
+use Rattle.sound.specs.Drain.{Taken, drain-leaves, drains-leaves, consolidate-leaves}
 use Rattle.sound.specs.Emptying.{emptying-leaves}
 use Rattle.sound.specs.Joining.{joining-leaves}
 use Rattle.sound.specs.Take.{step8-leaves}
@@ -29,14 +29,15 @@ use Rattle.sound.specs.Opened.{opened-ends}
 use Rattle.machine.specs.declared.{Got.Got, Got.the-variants.At, Got.the-variants.Nothing, Turn.Turn}
 use Rattle.machine.specs.declared.Turn.the-variants as T
 
--- ---- stacks emptied, with anything done to each chunk that keeps a sound heap and the stacks of M
-module _ (f : ℕ → Heap → Ran ℕ) (M : ℕ → Type 0)
+-- ---- stacks emptied, their heads taken by t, with anything done to each chunk that keeps a sound heap and the stacks of M
+module _ (t : ℕ → Heap → Ran Got) (f : ℕ → Heap → Ran ℕ) (M : ℕ → Type 0)
+    (T : (h : Heap) (w : List ℕ) (k c : ℕ) (l : List ℕ) → Good h → Mem h w → stack h k ≡ c ∷ l → k < 74 → M k → Leaves h w (t k h) (λ a g. Taken h k c l g) (any (one c)) nil)
     (F : (h : Heap) (w : List ℕ) (c : ℕ) → Good h → Mem h w → Loose h c → Leaves h w (f c h) (λ a g. Good g × Still M h g) (any nil) (one c)) where
-  pub drain-ends : (k : ℕ) → k < 74 → M k → (h : Heap) (w : List ℕ) → Good h → Mem h w → Ends (drain f k (stack h k) h) w Good
-  drain-ends k hk mk h w g m = leaves-ends (drain-leaves f M F k hk mk (stack h k) h w g m refl) (λ a n p. p .0)
+  pub drain-ends : (k : ℕ) → k < 74 → M k → (h : Heap) (w : List ℕ) → Good h → Mem h w → Ends (drain t f k (stack h k) h) w Good
+  drain-ends k hk mk h w g m = leaves-ends (drain-leaves t f M T F k hk mk (stack h k) h w g m refl) (λ a n p. p .0)
 
-  pub drains-ends : (n k : ℕ) → k + n ≤ 74 → ((i : ℕ) → k ≤ i → i < k + n → M i) → (h : Heap) (w : List ℕ) → Good h → Mem h w → Ends (drains f n k h) w Good
-  drains-ends n k hk mk h w g m = leaves-ends (drains-leaves f M F n k hk mk h w g m) (λ a n p. p .good)
+  pub drains-ends : (n k : ℕ) → k + n ≤ 74 → ((i : ℕ) → k ≤ i → i < k + n → M i) → (h : Heap) (w : List ℕ) → Good h → Mem h w → Ends (drains t f n k h) w Good
+  drains-ends n k hk mk h w g m = leaves-ends (drains-leaves t f M T F n k hk mk h w g m) (λ a n p. p .good)
 
 -- ---- release
 pub releasePast-ends : (h : Heap) (w : List ℕ) (c : ℕ) → Good h → Mem h w → Loose h c → Ends (releasePast c h) w Good
@@ -127,8 +128,9 @@ module _ (b : ℕ) (b16 : b % 16 ≡ 0) (b32 : 32 ≤ b) (h : Heap) (w : List �
 ends-sound : {A : Type 0} {r : Ran A} {w : List ℕ} → Ends r w Good → Sound (heapOf r) (apply (writes r) w) (recordOf (heapOf r))
 ends-sound e = record { good = e .now; mem = e .mem; rec = refl }
 
-pub opened-sound : (n : ℕ) (w : List ℕ) → n % 16 ≡ 0 → 32 ≤ n → n ≤ 262144 → 8 * length w ≡ n → Sound (opened n) (apply (size 0 n 1 ∷ []) w) (recordOf (opened n))
-opened-sound n w e l m q = let o = opened-ends n w e l m q in record { good = o .0; mem = o .1; rec = refl }
+pub opened-sound : (n q : ℕ) (w : List ℕ) → q < 2 ^ 64 → n % 16 ≡ 0 → 32 ≤ n → n ≤ 262144 → 8 * length w ≡ n
+    → Sound (opened n q) (apply (size 0 n 1 ∷ []) w) (recordOf (opened n q))
+opened-sound n q w b e l m z = let o = opened-ends n q w b e l m z in record { good = o .0; mem = o .1; rec = refl }
 
 module _ (h : Heap) (w r : List ℕ) (s : Sound h w r) where
   pub release-sound : (c : ℕ) → Loose h c → Sound (heapOf (release c h)) (apply (writes (release c h)) w) (recordOf (heapOf (release c h)))

@@ -9,10 +9,10 @@ use lib.Dec.{eqb}
 use lib.ListN.{length}
 use Rattle.sizes.specs.Limits.{none64}
 use Rattle.machine.specs.Lists.{hd, lst, tl, pre, post, ind, cnt}
-use Rattle.machine.specs.Count.{eq?, ind-same, ind-other, cnt-here, cntAll-set}
+use Rattle.machine.specs.Count.{eq?, ind-same, ind-other, cnt-here, cntAll-set, cnt-le-all}
 use Rattle.machine.specs.Heap.{Tile, tile, Heap, stack, bin, withTiles, endFrom, startsFrom, topOf, starts, sizeOf, next, total}
-use Rattle.machine.specs.Writes.{Write, Ran, heapOf, writes, does, giving, more, _>>=_, size, note, link, ran}
-use Rattle.machine.specs.Primitives.{push, pop, linkIn, unlink, swallow, clearP, setP, setNote, cutAt, toTop, cutTop, setRemainder, widen, trimAt, growTop}
+use Rattle.machine.specs.Writes.{Write, Ran, heapOf, writes, does, giving, more, _>>=_, size, note, link, key, ran}
+use Rattle.machine.specs.Primitives.{push, pop, pushCache, takeCache, linkIn, unlink, swallow, clearP, setP, setNote, cutAt, toTop, cutTop, setRemainder, widen, trimAt, growTop}
 use Rattle.sound.specs.Relation.{tiled, Shape, Loose}
 use Rattle.sound.specs.Tiles.{tiled-split, starts-append, starts-once}
 use Rattle.sound.specs.Frames.{starts-all}
@@ -122,6 +122,30 @@ pop-moved h k c l s hk e = record {
   same = λ x lo z. refl;
   spare = λ x lo z. tt;
   past = tt;
+}
+
+-- the cache's: the key is written in the chunk that goes, 0 in the chunk that comes
+pub pushCache-moved : (h : Heap) (k c : ℕ) → Shape h → k < 74 → Loose h c → Moved h (pushCache k c h) (any nil) (one c)
+pushCache-moved h k c s hk lc = record {
+  count = push-moved h k c s hk lc .count;
+  same = λ x lo z. refl;
+  spare = λ x lo z. spare-links h x (c ∷ []) (link c (hd none64 (stack h k)) ∷ key c (h .key) ∷ []) s (omega arith)
+      (λ y i. ⊎-elim (λ q. rw q (omega (arith, starts-all h c))) (λ q. absurd (omega (arith, ind-other y c q))) (eq? y c))
+      (omega arith) (omega arith, cnt-here c [], (omega arith, cnt-here c [], tt));
+  past = (omega arith, (omega arith, tt));
+}
+
+pub takeCache-moved : (h : Heap) (k c : ℕ) (l : List ℕ) → Shape h → k < 74 → stack h k ≡ c ∷ l → Moved h (takeCache k h) (any (one c)) nil
+takeCache-moved h k c l s hk e = record {
+  count = pop-moved h k c l s hk e .count;
+  same = λ x lo z. refl;
+  spare = λ x lo z.
+      let q : hd none64 (stack h k) ≡ c = ap (hd none64) e in
+      let tot : 1 ≤ total c h = omega (arith, ap (cnt c) e, ind-same c, cnt-le-all c (h .stacks) k) in
+      spare-links h x (c ∷ []) (key (hd none64 (stack h k)) 0 ∷ []) s (omega arith)
+      (λ y i. ⊎-elim (λ q. rw q (omega (arith, starts-all h c, s .own c, tot))) (λ q. absurd (omega (arith, ind-other y c q))) (eq? y c))
+      (omega (arith, listed-not h x c s lo tot)) (omega arith, rw q (cnt-here c []), tt);
+  past = (omega arith, tt);
 }
 
 -- ---- tiles: the chunk at the end of a takes in the next one

@@ -1,17 +1,17 @@
--- The record of a heap by its words: what stands at each of the 393 words of recordOf h, that a list with these words is recordOf h, and which words a change
+-- The record of a heap by its words: what stands at each of the 395 words of recordOf h, that a list with these words is recordOf h, and which words a change
 -- of the heap changes. Each part of the record is found behind the lengths of those before it. Assumes nothing.
 use mathlib.Core.Path.{_≡_, refl, sym, ap, _∙_, subst}
 use mathlib.Core.List.{List, [], _∷_, _++_, map}
 use mathlib.Core.Logic.{⊎-elim}
-use Prim.Native.Nat.{ℕ, zero, suc, _+_, _-_, _*_, _/_, _%_, _≤_, _<_}
+use Prim.Native.Nat.{ℕ, zero, suc, _+_, _-_, _*_, _/_, _%_, _^_, _≤_, _<_}
 use native.Mathlib.Nat.{le-of-suc-le-suc, not-suc-le-zero, zero-add, suc-add}
 use native.Mathlib.Omega.{arith}
 use lib.ListN.{length, getD, set, take, drop, length-append, length-drop, length-map, length-set, List·getD-append}
 use lib.Seq.{getD-take, getD-drop, getD-append-add, length-take-le, ext-getD, set-append-left, take-set-lt, take-set-le, drop-set-lt, drop-set-add, set-getD}
 use Rattle.sizes.specs.Limits.{none32, cacheLists}
-use Rattle.sizes.specs.Layout.{lengthWord, topWord, remainderWord, cacheHead, cacheCount, fastHead, binFirst, binLast}
+use Rattle.sizes.specs.Layout.{lengthWord, topWord, remainderWord, cacheHead, cacheCount, fastHead, binFirst, binLast, keyLow, keyHigh}
 use Rattle.machine.specs.Lists.{hd, lst}
-use Rattle.machine.specs.Heap.{Tile, Heap, cache, fast, fastAt, bin, withTiles, withStack, withBin, withRemainder, endFrom, topOf, ends, recordOf}
+use Rattle.machine.specs.Heap.{Tile, Heap, cache, fast, fastAt, bin, withTiles, withStack, withBin, withRemainder, endFrom, topOf, ends, halves, recordOf}
 use Rattle.sound.specs.Relation.{Shape}
 use Rattle.sound.specs.Tiles.{lt-or-le}
 
@@ -46,7 +46,7 @@ ends-last (l ∷ ls) (suc m) h = ap (λ (n : ℕ). getD (ends (l ∷ ls)) n 0) e
 
 -- ---- r has the words of h's record
 pub record Recorded (h : Heap) (r : List ℕ) : Type 0 where
-  pub all : length r ≡ 393
+  pub all : length r ≡ 395
   pub len : getD r lengthWord 0 ≡ h .len
   pub top : getD r topWord 0 ≡ topOf h
   pub remainder : getD r remainderWord 0 ≡ h .remainder
@@ -55,6 +55,8 @@ pub record Recorded (h : Heap) (r : List ℕ) : Type 0 where
   pub fasts : (k : ℕ) → k < 10 → getD r (fastHead k) 0 ≡ hd none32 (fast h k)
   pub firsts : (j : ℕ) → 1 ≤ j → j ≤ 126 → getD r (binFirst j) 0 ≡ hd none32 (bin h j)
   pub lasts : (j : ℕ) → 1 ≤ j → j ≤ 126 → getD r (binLast j) 0 ≡ lst none32 (bin h j)
+  pub low : getD r keyLow 0 ≡ h .key % 2 ^ 32
+  pub high : getD r keyHigh 0 ≡ h .key / 2 ^ 32
 
 -- the record's parts in a row
 parts : ℕ → ℕ → ℕ → List ℕ → List ℕ → List ℕ → List ℕ → List ℕ
@@ -111,7 +113,7 @@ module _ (h : Heap) (stacked : length (h .stacks) ≡ 74) (binned : length (h .b
   fasts = map (λ (l : List ℕ). hd none32 l) (drop cacheLists (h .stacks))
 
   tails : List ℕ
-  tails = ends (drop 1 (h .bins))
+  tails = ends (drop 1 (h .bins)) ++ halves (h .key)
 
   as-parts : recordOf h ≡ parts (h .len) (topOf h) (h .remainder) heads counts fasts tails
   unfolding recordOf parts heads counts fasts tails
@@ -138,12 +140,15 @@ module _ (h : Heap) (stacked : length (h .stacks) ≡ 74) (binned : length (h .b
   unfolding fasts
   fasts10 = length-map (drop cacheLists (h .stacks)) (λ (l : List ℕ). hd none32 l) ∙ quick
 
-  tails252 : length tails ≡ 252
-  unfolding tails
-  tails252 = omega (arith, length-ends (drop 1 (h .bins)), rows)
+  ends252 : length (ends (drop 1 (h .bins))) ≡ 252
+  ends252 = omega (arith, length-ends (drop 1 (h .bins)), rows)
 
-  pub record-length : length (recordOf h) ≡ 393
-  record-length = ap length as-parts ∙ omega (arith, length-parts (h .len) (topOf h) (h .remainder) heads counts fasts tails, heads64, counts64, fasts10, tails252)
+  tails254 : length tails ≡ 254
+  unfolding tails
+  tails254 = omega (arith, length-append (ends (drop 1 (h .bins))) (halves (h .key)), ends252)
+
+  pub record-length : length (recordOf h) ≡ 395
+  record-length = ap length as-parts ∙ omega (arith, length-parts (h .len) (topOf h) (h .remainder) heads counts fasts tails, heads64, counts64, fasts10, tails254)
 
   pub record-len : getD (recordOf h) lengthWord 0 ≡ h .len
   record-len = ap (λ (r : List ℕ). getD r lengthWord 0) as-parts ∙ parts-low (h .len) (topOf h) (h .remainder) heads counts fasts tails .0
@@ -189,6 +194,7 @@ module _ (h : Heap) (stacked : length (h .stacks) ≡ 74) (binned : length (h .b
       ap (λ (r : List ℕ). getD r (binFirst j) 0) as-parts
       ∙ ap (λ (x : ℕ). getD (parts (h .len) (topOf h) (h .remainder) heads counts fasts tails) x 0) n
       ∙ in-ends (h .len) (topOf h) (h .remainder) heads counts fasts tails (2 * (j - 1)) heads64 counts64 fasts10
+      ∙ List·getD-append (ends (drop 1 (h .bins))) (halves (h .key)) 0 (2 * (j - 1)) (omega (arith, ends252))
       ∙ ends-first (drop 1 (h .bins)) (j - 1) (omega (arith, rows))
       ∙ ap (λ (l : List ℕ). hd none32 l) (row (j - 1) ∙ ap (λ (x : ℕ). bin h x) i)
 
@@ -200,8 +206,19 @@ module _ (h : Heap) (stacked : length (h .stacks) ≡ 74) (binned : length (h .b
       ap (λ (r : List ℕ). getD r (binLast j) 0) as-parts
       ∙ ap (λ (x : ℕ). getD (parts (h .len) (topOf h) (h .remainder) heads counts fasts tails) x 0) n
       ∙ in-ends (h .len) (topOf h) (h .remainder) heads counts fasts tails (suc (2 * (j - 1))) heads64 counts64 fasts10
+      ∙ List·getD-append (ends (drop 1 (h .bins))) (halves (h .key)) 0 (suc (2 * (j - 1))) (omega (arith, ends252))
       ∙ ends-last (drop 1 (h .bins)) (j - 1) (omega (arith, rows))
       ∙ ap (λ (l : List ℕ). lst none32 l) (row (j - 1) ∙ ap (λ (x : ℕ). bin h x) i)
+
+  -- the key's halves stand behind the bins' ends
+  in-key : (i : ℕ) → getD (recordOf h) (393 + i) 0 ≡ getD (halves (h .key)) i 0
+  unfolding tails
+  in-key i =
+      let n : 393 + i ≡ 141 + (252 + i) = omega arith in
+      ap (λ (r : List ℕ). getD r (393 + i) 0) as-parts
+      ∙ ap (λ (x : ℕ). getD (parts (h .len) (topOf h) (h .remainder) heads counts fasts tails) x 0) n
+      ∙ in-ends (h .len) (topOf h) (h .remainder) heads counts fasts tails (252 + i) heads64 counts64 fasts10
+      ∙ behind 252 (ends (drop 1 (h .bins))) (halves (h .key)) i ends252
 
   pub record-words : Recorded h (recordOf h)
   record-words = record {
@@ -214,19 +231,23 @@ module _ (h : Heap) (stacked : length (h .stacks) ≡ 74) (binned : length (h .b
     fasts = record-fastHead;
     firsts = record-binFirst;
     lasts = record-binLast;
+    low = in-key 0;
+    high = in-key 1;
   }
 
--- ---- what holds of each kind of word holds of each of the 393
+-- ---- what holds of each kind of word holds of each of the 395
 record-cases : (P : ℕ → Type 0) → P lengthWord → P topWord → P remainderWord → ((k : ℕ) → k < 64 → P (cacheHead k)) → ((k : ℕ) → k < 64 → P (cacheCount k))
-    → ((k : ℕ) → k < 10 → P (fastHead k)) → ((j : ℕ) → 1 ≤ j → j ≤ 126 → P (binFirst j)) → ((j : ℕ) → 1 ≤ j → j ≤ 126 → P (binLast j)) → (i : ℕ) → i < 393 → P i
-record-cases P a b c heads counts fasts firsts lasts i h =
+    → ((k : ℕ) → k < 10 → P (fastHead k)) → ((j : ℕ) → 1 ≤ j → j ≤ 126 → P (binFirst j)) → ((j : ℕ) → 1 ≤ j → j ≤ 126 → P (binLast j)) → P keyLow → P keyHigh → (i : ℕ) → i < 395 → P i
+record-cases P a b c heads counts fasts firsts lasts kl kh i h =
     ⊎-elim (λ l. low i l)
     (λ l. ⊎-elim (λ m. at (cacheHead (i - 3)) (omega arith) (heads (i - 3) (omega arith)))
     (λ m. ⊎-elim (λ n. at (cacheCount (i - 67)) (omega arith) (counts (i - 67) (omega arith)))
     (λ n. ⊎-elim (λ o. at (fastHead (i - 131)) (omega arith) (fasts (i - 131) (omega arith)))
-    (λ o. ⊎-elim (λ q. at (binFirst (1 + (i - 141) / 2)) (omega arith) (firsts (1 + (i - 141) / 2) (omega arith) (omega arith)))
+    (λ o. ⊎-elim (λ p. ⊎-elim (λ q. at (binFirst (1 + (i - 141) / 2)) (omega arith) (firsts (1 + (i - 141) / 2) (omega arith) (omega arith)))
     (λ q. at (binLast (1 + (i - 141) / 2)) (omega arith) (lasts (1 + (i - 141) / 2) (omega arith) (omega arith)))
     (lt-or-le ((i - 141) % 2) 1))
+    (λ p. ⊎-elim (λ q. at keyLow (omega arith) kl) (λ q. at keyHigh (omega arith) kh) (lt-or-le i 394))
+    (lt-or-le i 393))
     (lt-or-le i 141)) (lt-or-le i 131)) (lt-or-le i 67)) (lt-or-le i 3)
   where
     at : (n : ℕ) → n ≡ i → P n → P i
@@ -244,7 +265,7 @@ record-ext h r s b k =
     ext-getD 0 r (recordOf h) (k .all ∙ sym (o .all))
     (λ i l. record-cases (λ n. getD r n 0 ≡ getD (recordOf h) n 0) (k .len ∙ sym (o .len)) (k .top ∙ sym (o .top)) (k .remainder ∙ sym (o .remainder))
     (λ n l. k .heads n l ∙ sym (o .heads n l)) (λ n l. k .counts n l ∙ sym (o .counts n l)) (λ n l. k .fasts n l ∙ sym (o .fasts n l))
-    (λ n l m. k .firsts n l m ∙ sym (o .firsts n l m)) (λ n l m. k .lasts n l m ∙ sym (o .lasts n l m)) i (omega (arith, k .all)))
+    (λ n l m. k .firsts n l m ∙ sym (o .firsts n l m)) (λ n l m. k .lasts n l m ∙ sym (o .lasts n l m)) (k .low ∙ sym (o .low)) (k .high ∙ sym (o .high)) i (omega (arith, k .all)))
 
 -- ---- a part of the record is set
 set-behind : (n : ℕ) (a b : List ℕ) (i v : ℕ) → length a ≡ n → set (a ++ b) (n + i) v ≡ a ++ set b i v
@@ -336,6 +357,8 @@ module _ (h : Heap) (stacked : length (h .stacks) ≡ 74) (binned : length (h .b
       let p : binFirst j ≡ 141 + 2 * m = omega arith in
       let q : binLast j ≡ 141 + suc (2 * m) = omega arith in
       let D = drop 1 (h .bins) in
+      let K = halves (h .key) in
+      let e252 = ends252 h stacked binned in
       let a = heads h stacked binned in
       let b = counts h stacked binned in
       let c = fasts h stacked binned in
@@ -344,9 +367,11 @@ module _ (h : Heap) (stacked : length (h .stacks) ≡ 74) (binned : length (h .b
       let g10 = fasts10 h stacked binned in
       let P : List ℕ → List ℕ = parts (h .len) (topOf h) (h .remainder) a b c in
       as-parts (withBin j l h) stacked (length-set (h .bins) j l ∙ binned)
-      ∙ ap P (ap (λ (n : ℕ). ends (drop 1 (set (h .bins) n l))) i ∙ ap ends (drop-set-add 1 (h .bins) m l) ∙ ends-set D m l)
-      ∙ sym (set-ends (h .len) (topOf h) (h .remainder) a b c (set (ends D) (2 * m) (hd none32 l)) (lst none32 l) (suc (2 * m)) e64 f64 g10)
-      ∙ ap (λ (r : List ℕ). set r (141 + suc (2 * m)) (lst none32 l)) (sym (set-ends (h .len) (topOf h) (h .remainder) a b c (ends D) (hd none32 l) (2 * m) e64 f64 g10))
+      ∙ ap P (ap (λ (z : List ℕ). z ++ K) (ap (λ (n : ℕ). ends (drop 1 (set (h .bins) n l))) i ∙ ap ends (drop-set-add 1 (h .bins) m l) ∙ ends-set D m l)
+      ∙ sym (set-append-left (set (ends D) (2 * m) (hd none32 l)) K (suc (2 * m)) (lst none32 l) (omega (arith, length-set (ends D) (2 * m) (hd none32 l), e252)))
+      ∙ ap (λ (z : List ℕ). set z (suc (2 * m)) (lst none32 l)) (sym (set-append-left (ends D) K (2 * m) (hd none32 l) (omega (arith, e252)))))
+      ∙ sym (set-ends (h .len) (topOf h) (h .remainder) a b c (set (ends D ++ K) (2 * m) (hd none32 l)) (lst none32 l) (suc (2 * m)) e64 f64 g10)
+      ∙ ap (λ (r : List ℕ). set r (141 + suc (2 * m)) (lst none32 l)) (sym (set-ends (h .len) (topOf h) (h .remainder) a b c (ends D ++ K) (hd none32 l) (2 * m) e64 f64 g10))
       ∙ rw (p, q) (ap (λ (r : List ℕ). set (set r (141 + 2 * m) (hd none32 l)) (141 + suc (2 * m)) (lst none32 l)) (sym (as-parts h stacked binned)))
 
 pub record-withTiles : (h : Heap) (ts : List Tile) → recordOf (withTiles ts h) ≡ set (recordOf h) topWord (endFrom 0 ts)

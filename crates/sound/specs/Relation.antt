@@ -3,12 +3,12 @@
 use mathlib.Core.Path.{_≡_}
 use mathlib.Core.List.{List, [], _∷_, _++_}
 use mathlib.Core.Bool.{true, false}
-use Prim.Native.Nat.{ℕ, _+_, _-_, _*_, _%_, _≤_, _<_}
+use Prim.Native.Nat.{ℕ, _+_, _-_, _*_, _%_, _≤_, _<_, _^_}
 use lib.Dec.{ltb}
 use lib.ListN.{length, getD}
-use Rattle.sizes.specs.Limits.{none64, mostArena, leastChunk, cacheLists, cacheRoom, mostFast}
+use Rattle.sizes.specs.Limits.{none64, newest, mostArena, leastChunk, cacheLists, cacheRoom, mostFast}
 use Rattle.sizes.specs.Sizes.{binOf}
-use Rattle.sizes.specs.Layout.{prevWord, sizeWord, fwdWord, backWord}
+use Rattle.sizes.specs.Layout.{prevWord, sizeWord, fwdWord, backWord, keyWord}
 use Rattle.machine.specs.Lists.{hd, cnt}
 use Rattle.machine.specs.Heap.{Tile, tile, Heap, stack, bin, binned, starts, topSize, sizeOf, total, recordOf}
 
@@ -35,11 +35,17 @@ abbrev pub links : List ℕ → ℕ → List ℕ → ℕ → Type 0
 links w p [] n = Unit {0}
 links w p (x ∷ l) n = (getD w (fwdWord x) 0 ≡ hd n l) × (getD w (backWord x) 0 ≡ p) × links w x l n
 
-pub record Mem (h : Heap) (w : List ℕ) : Type 0 where
+-- by the rules of version v: since version 2 each cached chunk has the key
+pub record MemBy (v : ℕ) (h : Heap) (w : List ℕ) : Type 0 where
   pub long : 8 * length w ≡ h .len
   pub words : tilesAt w 0 (all h)
   pub chains : (k : ℕ) → chain w (stack h k)
   pub blinks : (j : ℕ) → links w none64 (bin h j) none64
+  pub keys : 2 ≤ v → (k x : ℕ) → k < cacheLists → 1 ≤ cnt x (stack h k) → getD w (keyWord x) 0 ≡ h .key
+  pub key64 : h .key < 2 ^ 64
+
+abbrev pub Mem : Heap → List ℕ → Type 0
+Mem h w = MemBy newest h w
 
 -- ---- after every primitive: the tiles fill the arena, each listed chunk is a chunk but the top, and in one list once
 pub record Shape (h : Heap) : Type 0 where
@@ -83,7 +89,10 @@ pub record Good (h : Heap) : Type 0 where
   pub flag : flags (λ x. binned h x) 0 0 0 (all h)
 
 -- ---- words and record are those of the heap h, which is sound
-pub record Sound (h : Heap) (w r : List ℕ) : Type 0 where
+pub record SoundBy (v : ℕ) (h : Heap) (w r : List ℕ) : Type 0 where
   pub good : Good h
-  pub mem : Mem h w
+  pub mem : MemBy v h w
   pub rec : r ≡ recordOf h
+
+abbrev pub Sound : Heap → List ℕ → List ℕ → Type 0
+Sound h w r = SoundBy newest h w r

@@ -15,25 +15,35 @@ use Rattle.sizes.specs.SizesLaws.{cacheOf-size, fastOf-size, cacheOf-bound, fas
 use Rattle.machine.specs.Lists.{both, cnt}
 use Rattle.machine.specs.Heap.{Heap, stack, cache, fastAt, anyFast?, starts, sizeOf}
 use Rattle.machine.specs.Writes.{apply, Ran, giving, ran}
-use Rattle.machine.specs.Primitives.{push}
+use Rattle.machine.specs.Primitives.{push, pushCache}
 use Rattle.machine.specs.Release.{consolidate, joined, releasePast, release}
 use Rattle.sound.specs.Relation.{Mem, Loose, stackSize, Good}
 use Rattle.sound.specs.Edits.{size-32, size-16}
-use Rattle.sound.specs.Stacks.{push-ends}
-use Rattle.sound.specs.Moves.{nil, one, any, push-moved}
+use Rattle.sound.specs.Stacks.{push-ends, pushCache-ends}
+use Rattle.sound.specs.Moves.{nil, one, any, push-moved, pushCache-moved}
 use Rattle.sound.specs.Leaves.{Leaves, leaves-weaken, leaves-if, leaves-giving, leaves-next, Still, Cached, still-then}
 use Rattle.sound.specs.JoinLeaves.{join-leaves}
 use Rattle.sound.specs.Drain.{consolidate-leaves}
 
--- ---- a push of a loose chunk
-pub push-leaves : (h : Heap) (w : List ℕ) (k c : ℕ) → k < 74 → Good h → Mem h w → Loose h c → sizeOf h c ≡ stackSize k → (64 ≤ k → sizeOf h c ≤ 128)
-    → (k < 64 → length (stack h k) < 7) → Leaves h w (push k c h) (λ a g. Good g × Still (λ i. i ≡ k → ⊥) h g) (any nil) (one c)
-push-leaves h w k c hk g m lo sz qk sh =
-    let E = push-ends h w k c hk g m lo sz qk sh in
+-- ---- a push of a loose chunk on a fast list, and on a cache list
+push-leaves : (h : Heap) (w : List ℕ) (k c : ℕ) → 64 ≤ k → k < 74 → Good h → Mem h w → Loose h c → sizeOf h c ≡ stackSize k → sizeOf h c ≤ 128
+    → Leaves h w (push k c h) (λ a g. Good g × Still (λ i. i ≡ k → ⊥) h g) (any nil) (one c)
+push-leaves h w k c lk hk g m lo sz q =
+    let E = push-ends h w k c lk hk g m lo sz q in
     record {
       mem = E .mem;
       now = (E .now, record { lists = λ i ne. getD-set-other (h .stacks) k i (c ∷ stack h k) [] ne; remainder = refl });
       moved = push-moved h k c (g .shape) hk lo;
+    }
+
+pub pushCache-leaves : (h : Heap) (w : List ℕ) (k c : ℕ) → k < 64 → Good h → Mem h w → Loose h c → sizeOf h c ≡ stackSize k → length (stack h k) < 7
+    → Leaves h w (pushCache k c h) (λ a g. Good g × Still (λ i. i ≡ k → ⊥) h g) (any nil) (one c)
+pushCache-leaves h w k c hk g m lo sz sh =
+    let E = pushCache-ends h w k c hk g m lo sz sh in
+    record {
+      mem = E .mem;
+      now = (E .now, record { lists = λ i ne. getD-set-other (h .stacks) k i (c ∷ stack h k) [] ne; remainder = refl });
+      moved = pushCache-moved h k c (g .shape) (omega arith) lo;
     }
 
 -- the size that a cache list and a fast list own
@@ -66,7 +76,7 @@ releasePast-leaves h w c g m lo = leaves-if (leb (sizeOf h c) mostFast)
     let k : ℕ = fastAt (fastOf (sizeOf h c)) in
     let hk : k < 74 = omega (arith, fastOf-bound (sizeOf h c) le) in
     leaves-giving 0
-    (push-leaves h w k c hk g m lo (stackSize-fast (sizeOf h c) (size-16 h c s mc) (size-32 h c s mc)) (λ z. le) (λ z. absurd (omega arith)))
+    (push-leaves h w k c (omega arith) hk g m lo (stackSize-fast (sizeOf h c) (size-16 h c s mc) (size-32 h c s mc)) le)
     (λ a x. refl) (λ a n p. (p .0, record { lists = λ i l. p .1 .lists i (omega arith); remainder = p .1 .remainder })))
     (λ e. joined-leaves h w _ (leaves-weaken (join-leaves h w c g m lo) (λ a n p. (p .0, record { lists = λ i l. p .1 .lists i tt; remainder = p .1 .remainder }))))
 
@@ -87,6 +97,6 @@ release-leaves h w c g m lo = leaves-if (both (leb (sizeOf h c) mostCached) (ltb
     let sh : length (cache h k) < 7 = ltb-true (length (cache h k)) cacheRoom (b .1) in
     let k64 : k < 64 = cacheOf-bound (sizeOf h c) le in
     leaves-giving 0
-    (push-leaves h w k c (omega arith) g m lo (stackSize-cache (sizeOf h c) (size-16 h c s mc) (size-32 h c s mc) le) (λ z. absurd (omega arith)) (λ z. sh))
+    (pushCache-leaves h w k c k64 g m lo (stackSize-cache (sizeOf h c) (size-16 h c s mc) (size-32 h c s mc) le) sh)
     (λ a x. refl) (λ a n p. p .0))
     (λ e. leaves-weaken (releasePast-leaves h w c g m lo) (λ a n p. p .0))

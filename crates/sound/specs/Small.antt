@@ -17,17 +17,17 @@ use Rattle.sizes.specs.BinLaws.{binOf-small, binOf-large}
 use Rattle.machine.specs.Lists.{both, hd, lst, tl, some?, cnt}
 use Rattle.machine.specs.Count.{ind-same, cntAll-set, cnt-le-all}
 use Rattle.machine.specs.Heap.{Heap, stack, cache, fastAt, fast, bin, anyFast?, withStack, starts, sizeOf, total}
-use Rattle.machine.specs.Writes.{apply, Ran, heapOf, writes, giving, _>>=_, ran}
-use Rattle.machine.specs.Primitives.{pop, pushCache}
+use Rattle.machine.specs.Writes.{apply, Ran, heapOf, writes, giving, _>>=_, key, ran}
+use Rattle.machine.specs.Primitives.{pop, pushCache, takeCache}
 use Rattle.machine.specs.Grant.{roomFor?, step1, moveFast, step2, takeLast, moveLasts, step3, step4}
 use Rattle.sound.specs.Relation.{Mem, Loose, stackSize, Good}
 use Rattle.sound.specs.Tiles.{lt-or-le}
 use Rattle.sound.specs.Lists.{lst-in}
 use Rattle.sound.specs.Edits.{size-32, size-16}
-use Rattle.sound.specs.Stacks.{pop-ends}
-use Rattle.sound.specs.Moves.{answerOf, nil, one, any, listed-not, pop-moved}
+use Rattle.sound.specs.Stacks.{pop-ends, popped-loose, takeCache-ends}
+use Rattle.sound.specs.Moves.{answerOf, nil, one, any, listed-not, pop-moved, takeCache-moved}
 use Rattle.sound.specs.Leaves.{Leaves, leaves-weaken, leaves-by, leaves-if, leaves-none, leaves-giving, leaves-next, leaves-then, leaves-size, gave, Still, Cached, Found, still-here, found-nothing}
-use Rattle.sound.specs.Release.{push-leaves, stackSize-cache, stackSize-fast, both-true}
+use Rattle.sound.specs.Release.{pushCache-leaves, stackSize-cache, stackSize-fast, both-true}
 use Rattle.sound.specs.Drain.{consolidate-leaves}
 use Rattle.sound.specs.Take.{takeLast-leaves}
 use Rattle.machine.specs.declared.{Got.Got, Got.the-variants.At, Got.the-variants.Nothing}
@@ -37,19 +37,19 @@ pub some-has : (l : List ℕ) → some? l ≡ true → 1 ≤ cnt (lst none64 l) 
 some-has [] e = absurd (let z : _≡_ {A = ℕ} 0 1 = cc in omega arith)
 some-has (x ∷ l) e = lst-in x l
 
--- what is given from a stack: its head, of the stack's size
-pub pop-found : (h : Heap) (w : List ℕ) (k b : ℕ) → k < 74 → Good h → Mem h w → some? (stack h k) ≡ true → b ≡ stackSize k
-    → Leaves h w (pop k h) (Found b h) gave nil
-pop-found h w k b hk g m so eb = go (stack h k) refl
+-- what is given from the cache: the head of a list, of the list's size
+pub take-found : (h : Heap) (w : List ℕ) (k b : ℕ) → k < 64 → Good h → Mem h w → some? (stack h k) ≡ true → b ≡ stackSize k
+    → Leaves h w (takeCache k h) (Found b h) gave nil
+take-found h w k b hk g m so eb = go (stack h k) refl
   where
-    go : (l : List ℕ) → stack h k ≡ l → Leaves h w (pop k h) (Found b h) gave nil
+    go : (l : List ℕ) → stack h k ≡ l → Leaves h w (takeCache k h) (Found b h) gave nil
     go [] e = absurd (let z : _≡_ {A = ℕ} 0 1 = cc in omega arith)
     go (c ∷ l) e =
-        let E = pop-ends h w k hk g m in
+        let E = takeCache-ends h w k c l hk g m e in
         let sz : sizeOf h c ≡ stackSize k = g .homes .stacked k c (omega (arith, ap (cnt c) e, ind-same c)) in
-        leaves-by (ap (λ (z : List ℕ). ran (withStack k (tl (stack h k)) h) [] (At (hd none64 z))) e)
+        leaves-by (ap (λ (z : List ℕ). ran (withStack k (tl (stack h k)) h) (key (hd none64 (stack h k)) 0 ∷ []) (At (hd none64 z))) e)
         (leaves-giving (At c)
-        (record { mem = E .mem; now = (E .now, omega (arith, sz)); moved = pop-moved h k c l (g .shape) hk e }) (λ a x. refl) (λ a n p. p))
+        (record { mem = E .mem; now = (E .now, omega (arith, sz)); moved = takeCache-moved h k c l (g .shape) (omega arith) e }) (λ a x. refl) (λ a n p. p))
 
 -- ---- 1. the cache: a grant that passes it finds the cache list of its size empty
 none-has : (l : List ℕ) → some? l ≡ false → l ≡ []
@@ -61,7 +61,7 @@ unfolding step1
 step1-passed-empty b h l = go (both (leb b mostCached) (some? (cache h (cacheOf b)))) refl
   where
     go : (t : Bool) → both (leb b mostCached) (some? (cache h (cacheOf b))) ≡ t
-        → answerOf {A = Got} (elim t [ true ↦ pop (cacheOf b) h | false ↦ ran h [] Nothing ]) ≡ Nothing → cache h (cacheOf b) ≡ []
+        → answerOf {A = Got} (elim t [ true ↦ takeCache (cacheOf b) h | false ↦ ran h [] Nothing ]) ≡ Nothing → cache h (cacheOf b) ≡ []
     go true q e = absurd (let z : _≡_ {A = ℕ} 0 1 = cc in omega arith)
     go false q e = none-has (cache h (cacheOf b)) (rw (le-leb b mostCached l) at q)
 
@@ -72,7 +72,7 @@ module _ (b : ℕ) (b16 : b % 16 ≡ 0) (b32 : 32 ≤ b) where
       (λ e.
       let t = both-true (leb b mostCached) (some? (cache h (cacheOf b))) e in
       let le : b ≤ 1040 = leb-true b mostCached (t .0) in
-      pop-found h w (cacheOf b) b (omega (arith, cacheOf-bound b le)) g m (t .1) (stackSize-cache b b16 b32 le))
+      take-found h w (cacheOf b) b (cacheOf-bound b le) g m (t .1) (stackSize-cache b b16 b32 le))
       (λ e. found-nothing b h w g m)
 
   -- a chunk that has just become loose, of size b, goes to the cache
@@ -80,7 +80,7 @@ module _ (b : ℕ) (b16 : b % 16 ≡ 0) (b32 : 32 ≤ b) where
       → Leaves h w (pushCache (cacheOf b) c h) (λ a g. Good g × Still (λ i. i ≡ cacheOf b → ⊥) h g) (any nil) (one c)
   cache-leaves h w c g m lo sz le sh =
       let k64 : cacheOf b < 64 = cacheOf-bound b le in
-      push-leaves h w (cacheOf b) c (omega arith) g m lo (sz ∙ stackSize-cache b b16 b32 le) (λ z. absurd (omega arith)) (λ z. sh)
+      pushCache-leaves h w (cacheOf b) c k64 g m lo (sz ∙ stackSize-cache b b16 b32 le) sh
 
   -- ---- 2. the fast list, whose further heads go to the cache
   module _ (le : b ≤ 128) where
@@ -95,16 +95,7 @@ module _ (b : ℕ) (b16 : b % 16 ≡ 0) (b32 : 32 ≤ b) where
 
     -- the head of the fast list is loose then
     popped : (h : Heap) (c : ℕ) (l : List ℕ) → Good h → stack h K ≡ c ∷ l → Loose (heapOf (pop K h)) c
-    popped h c l g e =
-        omega (
-          arith,
-          g .shape .own c,
-          ap (cnt c) e,
-          ap (λ (l : List ℕ). cnt c (tl l)) e,
-          ind-same c,
-          cntAll-set c (h .stacks) K (tl (stack h K))
-              (omega (arith, K74, g .shape .stacked74)),
-        )
+    popped h c l g e = popped-loose h K c l K74 (g .shape) e
 
     pub moveFast-leaves : (l : List ℕ) (h : Heap) (w : List ℕ) → Good h → Mem h w → stack h K ≡ l → Leaves h w (moveFast b l h) (λ a g. Good g) (any nil) nil
     unfolding moveFast

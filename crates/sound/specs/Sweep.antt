@@ -28,7 +28,7 @@ use Rattle.sound.specs.Leaves.{Leaves, leaves-of, leaves-weaken, leaves-
 use Rattle.sound.specs.JoinLeaves.{Every}
 use Rattle.sound.specs.Release.{stackSize-cache, both-true}
 use Rattle.sound.specs.Take.{from-bin, mark-at, splitRest-leaves}
-use Rattle.sound.specs.Small.{some-has, pop-found, cache-leaves}
+use Rattle.sound.specs.Small.{some-has, take-found, cache-leaves}
 use Rattle.machine.specs.declared.{Got.Got, Turn.Turn}
 use Rattle.machine.specs.declared.Turn.the-variants as T
 
@@ -135,7 +135,7 @@ module _ (b : ℕ) (b16 : b % 16 ≡ 0) (b32 : 32 ≤ b) where
   swept-leaves : (got : Bool) (h₀ h : Heap) (w : List ℕ) → Good h → Mem h w → Caching got h₀ h → Leaves h w (swept b got h) (Found b h₀) gave nil
   unfolding swept
   swept-leaves true h₀ h w g m k =
-      let L = pop-found h w (cacheOf b) b (omega (arith, cacheOf-bound b (k .1))) g m (k .0) (stackSize-cache b b16 b32 (k .1)) in
+      let L = take-found h w (cacheOf b) b (cacheOf-bound b (k .1)) g m (k .0) (stackSize-cache b b16 b32 (k .1)) in
       record { mem = L .mem; now = L .now; moved = L .moved }
   swept-leaves false h₀ h w g m k = record { mem = m; now = (g, k); moved = found-nothing b h w g m .moved }
 

@@ -157,6 +157,8 @@ module _ (h : Heap) (w v : List ℕ) (g : Good h) (q : Mem h w) (a : Agrees h w 
         (size-word (topOf h) (end-even 0 (h .tiles) refl whole) (inr refl) ∙ t .1 .0, λ z. absurd (omega (arith, z)), tt);
     chains = λ k. chain-cong w v (stack h k) (λ x m. link-words x (omega (arith, m, cnt-le-all x (h .stacks) k)) .0) (q .chains k);
     blinks = λ j. links-cong w v _ (bin h j) _ (λ x m. bin-words x j m .0) (λ x m. bin-words x j m .1) (q .blinks j);
+    keys = λ z k x p m. link-words x (omega (arith, m, cnt-le-all x (h .stacks) k)) .1 ∙ q .keys z k x p m;
+    key64 = q .key64;
   }
     where
       t : tilesAt w 0 (h .tiles) × tilesAt w (topOf h) (tile (topSize h) 1 0 ∷ [])

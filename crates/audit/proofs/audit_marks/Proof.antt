@@ -22,13 +22,13 @@ returns : tie.Need-returns
 returns c =
     let s = c .before .before .before .before .before in
     let len = arena-length (s .args .a .now) (s .pre .0 .arena) in
-    audit-record (arenaWords (s .args .a .now)) (s .args .r .now) _ (λ e. c .if1 .taken (e ∙ len))
+    audit-record (s .args .v) (arenaWords (s .args .a .now)) (s .args .r .now) _ (λ e. c .if1 .taken (e ∙ len))
 
-shared-slice-read-t8 : tie.Need-shared-slice-read-t8
-shared-slice-read-t8 c = search needs
+shared-slice-read-t9 : tie.Need-shared-slice-read-t9
+shared-slice-read-t9 c = search needs
 
-cast-t13 : tie.Need-cast-t13
-cast-t13 c = omega (arith, c .shared-slice-known4 .given 1)
+cast-t14 : tie.Need-cast-t14
+cast-t14 c = omega (arith, c .shared-slice-known4 .given 1)
 
 tile-fault-requires : tie.Need-tile-fault-requires
 tile-fault-requires c κs = search needs
@@ -44,7 +44,7 @@ returns-2 c =
     let s = c .before .before .before .before .before .before .before .before .before .before .before .before in
     let w = arenaWords (s .args .a .now) in
     let e : getD (s .args .r .now) 0 0 ≡ 8 * length w = omega (arith, c .before .before .before .before .before .before .before .if1 .left, arena-length (s .args .a .now) (s .pre .0 .arena)) in
-    audit-tile w (s .args .r .now) _ _ _ e (c .before .before .before .before .tile-fault .ensures) (sym (c .before .is-sound .ensures) ∙ not-true _ (c .if2 .taken))
+    audit-tile (s .args .v) w (s .args .r .now) _ _ _ e (c .before .before .before .before .tile-fault .ensures) (sym (c .before .is-sound .ensures) ∙ not-true _ (c .if2 .taken))
 
 list-fault-requires : tie.Need-list-fault-requires
 list-fault-requires c κs =
@@ -66,7 +66,7 @@ returns-3 c =
     let e : getD (s .args .r .now) 0 0 ≡ 8 * length w = omega (arith, c .before .before .before .before .before .before .before .before .before .before .before .before .before .if1 .left, arena-length (s .args .a .now) (s .pre .0 .arena)) in
     let t = c .before .before .before .before .before .before .before .before .before .before .tile-fault in
     let ts = is-sound (t .result) (sym (c .before .before .before .before .before .before .before .is-sound .ensures) ∙ not-false _ (c .before .before .before .before .before .before .if2 .left)) in
-    audit-list w (s .args .r .now) _ _ _ _ _ e (t .ensures) ts (c .before .before .before .before .list-fault .ensures) (sym (c .before .is-sound2 .ensures) ∙ not-true _ (c .if3 .taken))
+    audit-list (s .args .v) w (s .args .r .now) _ _ _ _ _ e (t .ensures) ts (c .before .before .before .before .list-fault .ensures) (sym (c .before .is-sound2 .ensures) ∙ not-true _ (c .if3 .taken))
 
 flag-fault-requires : tie.Need-flag-fault-requires
 flag-fault-requires c κs =
@@ -89,7 +89,7 @@ returns-4 c =
     let ts = is-sound (t .result) (sym (c .before .before .before .before .before .before .before .before .before .is-sound .ensures) ∙ not-false _ (c .before .before .before .before .before .before .before .before .if2 .left)) in
     let l = c .before .before .before .before .before .before .list-fault in
     let ls = is-sound (l .result) (sym (c .before .before .before .is-sound2 .ensures) ∙ not-false _ (c .before .before .if3 .left)) in
-    audit-flag w (s .args .r .now) _ _ _ _ _ e (t .ensures) ts (l .ensures) ls (c .flag-fault .ensures)
+    audit-flag (s .args .v) w (s .args .r .now) _ _ _ _ _ e (t .ensures) ts (l .ensures) ls (c .flag-fault .ensures)
 
 pub audit-marks-spec : {M : Type 1} → statement M
 audit-marks-spec =
@@ -98,8 +98,8 @@ audit-marks-spec =
     shared-slice-read-if1
     cast-if1
     returns
-    shared-slice-read-t8
-    cast-t13
+    shared-slice-read-t9
+    cast-t14
     tile-fault-requires
     is-sound-requires
     same-length

@@ -1,5 +1,5 @@
 -- `reach` meets its contract: the loop keeps Before, from the marks of the tile walk on; the measure is the lists to come. Assumes nothing.
-use mathlib.Core.Path.{_≡_, refl, _∙_}
+use mathlib.Core.Path.{_≡_, refl}
 use Prim.Native.Nat.{_-_, _≤_}
 use native.Mathlib.Omega.{arith}
 use lib.ListN.{length}
@@ -10,15 +10,15 @@ use Rattle.audit_reached.proofs.reach.Statement.{statement}
 use Rattle.audit_reached.proofs.reach.Tie as tie
 
 abbrev Inv-loop : tie.InvT-loop
-Inv-loop a r m₀ i₀ m i = (length m ≡ length m₀) × (i ≤ 200) × Before (arenaWords a) r m i
+Inv-loop a r m₀ v i₀ m i = (length m ≡ length m₀) × (i ≤ 200) × Before v (arenaWords a) r m i
 
 abbrev μ-loop : tie.MeasureT-loop
-μ-loop a r m₀ i₀ m i = 200 - i
+μ-loop a r m₀ v i₀ m i = 200 - i
 
 loop-holds : tie.Need-loop-holds Inv-loop μ-loop
 loop-holds c =
     let s = c .before .before .before in
-    (refl, omega arith, lists-enter (arenaWords (s .args .a .now)) (s .args .r .now) (s .args .m .now) (s .pre .2))
+    (refl, omega arith, lists-enter (s .args .v) (arenaWords (s .args .a .now)) (s .args .r .now) (s .args .m .now) (s .pre .2))
 
 reach-list-requires : tie.Need-reach-list-requires Inv-loop μ-loop
 reach-list-requires c κs =
@@ -43,7 +43,7 @@ returns : tie.Need-returns Inv-loop μ-loop
 returns c =
     let s = c .before .before .before .before .before in
     let l = c .before .loop in
-    lists-done (arenaWords (s .args .a .now)) (s .args .r .now) (l .m) (l .i) (omega (arith, l .inv .1, c .loop-test .left)) (l .inv .2)
+    lists-done (s .args .v) (arenaWords (s .args .a .now)) (s .args .r .now) (l .m) (l .i) (omega (arith, l .inv .1, c .loop-test .left)) (l .inv .2)
 
 pub reach-spec : {M : Type 1} → statement M
 reach-spec =

@@ -15,51 +15,54 @@ use Rattle.audit_reached.proofs.reach_list.Statement.{statement}
 use Rattle.audit_reached.proofs.reach_list.Tie as tie
 
 abbrev Inv-loop : tie.InvT-loop
-Inv-loop a r m₀ i k v o c₀ p₀ q₀ n₀ m c p q n = (length m ≡ length m₀) × Within (arenaWords a) r m k i (p .0) q n (c .0)
+Inv-loop a r m₀ i v k u x o c₀ p₀ q₀ n₀ m c p q n = (length m ≡ length m₀) × Within v (arenaWords a) r m k i (p .0) q n (c .0)
 
 abbrev μ-loop : tie.MeasureT-loop
-μ-loop a r m₀ i k v o c₀ p₀ q₀ n₀ m c p q n = length (arenaWords a) - n
+μ-loop a r m₀ i v k u x o c₀ p₀ q₀ n₀ m c p q n = length (arenaWords a) - n
 
 kind-at-requires : tie.Need-kind-at-requires Inv-loop μ-loop
 kind-at-requires c κs = search needs
 
-cast-v : tie.Need-cast-v Inv-loop μ-loop
-cast-v c = search needs
+cast-u : tie.Need-cast-u Inv-loop μ-loop
+cast-u c = search needs
 
-add-v : tie.Need-add-v Inv-loop μ-loop
-add-v c = search needs
+add-u : tie.Need-add-u Inv-loop μ-loop
+add-u c = search needs
+
+asked-by-requires : tie.Need-asked-by-requires Inv-loop μ-loop
+asked-by-requires c κs = search needs
 
 owned-by-requires : tie.Need-owned-by-requires Inv-loop μ-loop
-owned-by-requires c κs = kind-numbered _ _ (c .kind-at .ensures) (c .before .before .before .before .pre .2)
+owned-by-requires c κs = kind-numbered _ _ (c .before .kind-at .ensures) (c .before .before .before .before .before .pre .2)
 
 head-requires : tie.Need-head-requires Inv-loop μ-loop
 head-requires c κs =
-    let s = c .before .before .before .before .before in
-    (s .pre .1, kind-words _ _ (c .before .kind-at .ensures) (s .pre .2) .0)
+    let s = c .before .before .before .before .before .before in
+    (s .pre .1, kind-words _ _ (c .before .before .kind-at .ensures) (s .pre .2) .0)
 
 loop-holds : tie.Need-loop-holds Inv-loop μ-loop
 loop-holds c =
-    let s = c .before .before .before .before .before .before in
-    let k = c .before .before .kind-at .ensures in
-    (refl, list-begin (arenaWords (s .args .a .now)) (s .args .r .now) _ _ _ _ _ k (c .head .ensures) (s .pre .2) (s .pre .3))
+    let s = c .before .before .before .before .before .before .before in
+    let k = c .before .before .before .kind-at .ensures in
+    (refl, list-begin (s .args .v) (arenaWords (s .args .a .now)) (s .args .r .now) _ _ _ _ _ k (c .head .ensures) (s .pre .2) (s .pre .3))
 
 unmet-requires : tie.Need-unmet-requires Inv-loop μ-loop
 unmet-requires c κs = search needs
 
 size-at-requires : tie.Need-size-at-requires Inv-loop μ-loop
 size-at-requires c κs =
-    let s = c .before .before .before .before .before .before .before .before .before .before .before .before in
+    let s = c .before .before .before .before .before .before .before .before .before .before .before .before .before in
     let l = c .before .before .before .before .before .loop in
     let un = sym (c .before .unmet .ensures) ∙ not-false _ (c .if2 .left) in
-    let j = unmet-inside (arenaWords (s .args .a .now)) (s .args .r .now) (l .m) _ (l .inv .1 .marks) (l .c .0) un in
+    let j = unmet-inside (s .args .v) (arenaWords (s .args .a .now)) (s .args .r .now) (l .m) _ (l .inv .1 .marks) (l .c .0) un in
     (omega (arith, j .0), omega (arith, j .1, arena-length (s .args .a .now) (s .pre .0 .arena)))
 
 may-stand-requires : tie.Need-may-stand-requires Inv-loop μ-loop
 may-stand-requires c κs =
-    let s = c .before .before .before .before .before .before .before .before .before .before .before .before .before in
+    let s = c .before .before .before .before .before .before .before .before .before .before .before .before .before .before in
     let l = c .before .before .before .before .before .before .loop in
     let un = sym (c .before .before .unmet .ensures) ∙ not-false _ (c .before .if2 .left) in
-    let j = unmet-inside (arenaWords (s .args .a .now)) (s .args .r .now) (l .m) _ (l .inv .1 .marks) (l .c .0) un in
+    let j = unmet-inside (s .args .v) (arenaWords (s .args .a .now)) (s .args .r .now) (l .m) _ (l .inv .1 .marks) (l .c .0) un in
     let len = arena-length (s .args .a .now) (s .pre .0 .arena) in
     let owns = c .before .before .before .before .before .before .before .before .owned-by .ensures in
     (record { even = j .0; inside = omega (arith, j .1, len); size = c .size-at .ensures; before = l .inv .1 .sized }, owns)
@@ -71,16 +74,16 @@ slice-write-m c =
 
 add-n : tie.Need-add-n Inv-loop μ-loop
 add-n c =
-    let s = c .before .before .before .before .before .before .before .before .before .before .before .before .before .before .before .before in
+    let s = c .before .before .before .before .before .before .before .before .before .before .before .before .before .before .before .before .before in
     let l = c .before .before .before .before .before .before .before .before .before .loop in
     omega (arith, l .inv .1 .few, arena-length (s .args .a .now) (s .pre .0 .arena), s .pre .0 .arena .small)
 
 fwd-at-requires : tie.Need-fwd-at-requires Inv-loop μ-loop
 fwd-at-requires c κs =
-    let s = c .before .before .before .before .before .before .before .before .before .before .before .before .before .before .before .before in
+    let s = c .before .before .before .before .before .before .before .before .before .before .before .before .before .before .before .before .before in
     let l = c .before .before .before .before .before .before .before .before .before .loop in
     let un = sym (c .before .before .before .before .before .unmet .ensures) ∙ not-false _ (c .before .before .before .before .if2 .left) in
-    let j = unmet-inside (arenaWords (s .args .a .now)) (s .args .r .now) (l .m) _ (l .inv .1 .marks) (l .c .0) un in
+    let j = unmet-inside (s .args .v) (arenaWords (s .args .a .now)) (s .args .r .now) (l .m) _ (l .inv .1 .marks) (l .c .0) un in
     (omega (arith, j .0), omega (arith, j .1, arena-length (s .args .a .now) (s .pre .0 .arena)))
 
 loop-less : tie.Need-loop-less Inv-loop μ-loop
@@ -90,13 +93,14 @@ loop-again : tie.Need-loop-again Inv-loop μ-loop
 loop-again c =
     let t = c .before .before .before .before .before .before in
     let l = t .before .before .before .before .loop in
-    let s = t .before .before .before .before .before .before .before .before .before .before .before in
+    let s = t .before .before .before .before .before .before .before .before .before .before .before .before in
+    let x = t .before .before .before .before .before .before .before .asked-by .ensures in
     let un = sym (t .unmet .ensures) ∙ not-false _ (c .before .before .before .before .before .if2 .left) in
     let stands = not-false _ (c .before .before .if3 .left) in (
       length-set {A = ℕ} (l .m) (l .c .0 / 16) _ ∙ l .inv .0,
       rw (c .fwd-at .ensures)
-          (list-turn (arenaWords (s .args .a .now)) (s .args .r .now) _ _ _ _ _ _ _ (l .inv .1) _ _ (s .pre .2) (t .before .before .if1 .taken) un
-          (c .before .before .before .may-stand .ensures) stands (c .before .before .before .before .size-at .ensures)),
+          (list-turn (s .args .v) (arenaWords (s .args .a .now)) (s .args .r .now) _ _ _ _ _ _ _ (l .inv .1) _ _ (s .pre .2) (t .before .before .if1 .taken) un
+          (c .before .before .before .may-stand .ensures _ _ x) stands (c .before .before .before .before .size-at .ensures)),
     )
 
 same-length : tie.Need-same-length Inv-loop μ-loop
@@ -104,18 +108,18 @@ same-length c = c .before .before .loop .inv .0
 
 returns : tie.Need-returns Inv-loop μ-loop
 returns c =
-    let s = c .before .before .before .before .before .before .before .before .before in
-    list-end (arenaWords (s .args .a .now)) (s .args .r .now) _ _ _ _ _ _ _ (c .before .before .loop .inv .1) (c .if1 .left)
+    let s = c .before .before .before .before .before .before .before .before .before .before in
+    list-end (s .args .v) (arenaWords (s .args .a .now)) (s .args .r .now) _ _ _ _ _ _ _ (c .before .before .loop .inv .1) (c .if1 .left)
 
 same-length-2 : tie.Need-same-length-2 Inv-loop μ-loop
 same-length-2 c = c .before .before .before .before .before .loop .inv .0
 
 returns-2 : tie.Need-returns-2 Inv-loop μ-loop
 returns-2 c =
-    let s = c .before .before .before .before .before .before .before .before .before .before .before .before in
+    let s = c .before .before .before .before .before .before .before .before .before .before .before .before .before in
     let met = sym (c .before .unmet .ensures) ∙ not-true _ (c .if2 .taken) in
     let l = c .before .before .before .before .before .loop in
-    list-met (arenaWords (s .args .a .now)) (s .args .r .now) _ _ _ _ _ _ _ (l .inv .1) (c .before .before .before .if1 .taken) met
+    list-met (s .args .v) (arenaWords (s .args .a .now)) (s .args .r .now) _ _ _ _ _ _ _ (l .inv .1) (c .before .before .before .if1 .taken) met
 
 same-length-3 : tie.Need-same-length-3 Inv-loop μ-loop
 same-length-3 c = c .before .before .before .before .before .before .before .before .loop .inv .0
@@ -123,11 +127,12 @@ same-length-3 c = c .before .before .before .before .before .before .before .bef
 returns-3 : tie.Need-returns-3 Inv-loop μ-loop
 returns-3 c =
     let t = c .before .before .before .before in
-    let s = t .before .before .before .before .before .before .before .before .before .before .before in
+    let s = t .before .before .before .before .before .before .before .before .before .before .before .before in
+    let x = t .before .before .before .before .before .before .before .asked-by .ensures in
     let un = sym (t .unmet .ensures) ∙ not-false _ (c .before .before .before .if2 .left) in
     let l = t .before .before .before .before .loop in
-    list-misplaced (arenaWords (s .args .a .now)) (s .args .r .now) _ _ _ _ _ _ _ (l .inv .1) _ (t .before .before .if1 .taken) un
-    (c .before .may-stand .ensures) (not-true _ (c .if3 .taken))
+    list-misplaced (s .args .v) (arenaWords (s .args .a .now)) (s .args .r .now) _ _ _ _ _ _ _ (l .inv .1) _ (t .before .before .if1 .taken) un
+    (c .before .may-stand .ensures _ _ x) (not-true _ (c .if3 .taken))
 
 pub reach-list-spec : {M : Type 1} → statement M
 reach-list-spec =
@@ -136,8 +141,9 @@ reach-list-spec =
     Inv-loop
     μ-loop
     kind-at-requires
-    cast-v
-    add-v
+    cast-u
+    add-u
+    asked-by-requires
     owned-by-requires
     head-requires
     loop-holds

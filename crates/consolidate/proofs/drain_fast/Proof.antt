@@ -5,24 +5,25 @@ use mathlib.Core.Path.{_≡_, refl, _∙_}
 use lib.ListN.{length}
 use Rattle.le.specs.Arena.{arenaWords}
 use Rattle.machine.specs.Heap.{fastAt}
+use Rattle.machine.specs.Primitives.{pop}
 use Rattle.machine.specs.Release.{join}
 use Rattle.sound.specs.JoinLeaves.{Every, join-leaves}
 use Rattle.primitives.specs.Stacks.{ok-length}
 use Rattle.primitives.specs.Heads.{fast-some, fast-empty}
 use Rattle.primitives.specs.Reach.{Way, way-here}
-use Rattle.consolidate.specs.Drain.{left, drainOf, popped-has, drain-next, drain-done, fast-less}
+use Rattle.consolidate.specs.Drain.{left, drainOf, taken-has, pop-head, pop-takes, drain-next, drain-done, fast-less}
 use Rattle.consolidate.proofs.drain_fast.Statement.{statement}
 use Rattle.consolidate.proofs.drain_fast.Tie as tie
 
 abbrev Inv-loop : tie.InvT-loop
-Inv-loop a₀ r₀ k a r = (length a ≡ length a₀) × (length r ≡ length r₀) × Way (Unit {0}) (drainOf join (fastAt k)) (drainOf join (fastAt k)) (arenaWords a₀) r₀
+Inv-loop a₀ r₀ k a r = (length a ≡ length a₀) × (length r ≡ length r₀) × Way (Unit {0}) (drainOf pop join (fastAt k)) (drainOf pop join (fastAt k)) (arenaWords a₀) r₀
     (arenaWords a) r
 
 abbrev μ-loop : tie.MeasureT-loop
 μ-loop a₀ r₀ k a r = left (arenaWords a) r k
 
 loop-holds : tie.Need-loop-holds Inv-loop μ-loop
-loop-holds c = (refl, refl, way-here (drainOf join (fastAt (c .before .before .args .k))) _ _)
+loop-holds c = (refl, refl, way-here (drainOf pop join (fastAt (c .before .before .args .k))) _ _)
 
 add-if1 : tie.Need-add-if1 Inv-loop μ-loop
 add-if1 c = omega arith
@@ -48,7 +49,7 @@ join-requires c κs =
     let l = i .before .before in
     let s = l .before .before .before in
     let R = l .loop .inv .2 .reach (s .pre .1 .heap) (s .pre .1 .ok) (s .pre .1 .holds) in
-    popped-has join Every join-leaves (fastAt (s .args .k)) (omega (arith, s .pre .0)) tt _ _ _ (R .ok) (R .good)
+    taken-has pop join Every pop-head pop-takes join-leaves (fastAt (s .args .k)) (omega (arith, s .pre .0)) tt _ _ _ (R .ok) (R .good)
     (fast-some _ _ _ (R .ok) _ (s .pre .0) (i .if1 .taken)) (t .take-fast .ensures)
 
 loop-less : tie.Need-loop-less Inv-loop μ-loop
@@ -73,7 +74,7 @@ loop-again c =
       record {
         reach = λ h o g.
             let R = l .loop .inv .2 .reach h o g in
-            drain-next join Every join-leaves (fastAt (s .args .k)) (omega (arith, s .pre .0)) tt R (fast-some _ _ _ (R .ok) _ (s .pre .0) (i .if1 .taken))
+            drain-next pop join Every pop-head pop-takes join-leaves (fastAt (s .args .k)) (omega (arith, s .pre .0)) tt R (fast-some _ _ _ (R .ok) _ (s .pre .0) (i .if1 .taken))
             (t .take-fast .ensures) (j .join .ensures);
       },
     )
@@ -91,7 +92,7 @@ returns c =
     record {
       does = λ h o g.
           let R = l .loop .inv .2 .reach h o g in
-          drain-done join Every join-leaves (fastAt (s .args .k)) (omega (arith, s .pre .0)) tt R (fast-empty _ _ _ (R .ok) _ (s .pre .0) (c .if1 .left));
+          drain-done pop join Every pop-head pop-takes join-leaves (fastAt (s .args .k)) (omega (arith, s .pre .0)) tt R (fast-empty _ _ _ (R .ok) _ (s .pre .0) (c .if1 .left));
     }
 
 pub drain-fast-spec : {M : Type 1} → statement M

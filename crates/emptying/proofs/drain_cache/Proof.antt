@@ -5,26 +5,27 @@ use mathlib.Core.Path.{_≡_, refl, _∙_}
 use lib.ListN.{length, getD}
 use Rattle.le.specs.Arena.{arenaWords}
 use Rattle.sizes.specs.Layout.{cacheCount}
+use Rattle.machine.specs.Primitives.{takeCache}
 use Rattle.machine.specs.Release.{releasePast}
 use Rattle.sound.specs.Leaves.{Cached}
 use Rattle.sound.specs.Release.{releasePast-leaves}
 use Rattle.primitives.specs.Stacks.{ok-length}
 use Rattle.primitives.specs.Heads.{cache-some, cache-empty}
 use Rattle.primitives.specs.Reach.{Way, way-here}
-use Rattle.consolidate.specs.Drain.{drainOf, popped-has, drain-next, drain-done}
-use Rattle.emptying.specs.Emptying.{cache-less}
+use Rattle.consolidate.specs.Drain.{drainOf, taken-has, drain-next, drain-done}
+use Rattle.emptying.specs.Emptying.{take-head, take-takes, cache-less}
 use Rattle.emptying.proofs.drain_cache.Statement.{statement}
 use Rattle.emptying.proofs.drain_cache.Tie as tie
 
 abbrev Inv-loop : tie.InvT-loop
-Inv-loop a₀ r₀ k a r = (length a ≡ length a₀) × (length r ≡ length r₀) × Way (Unit {0}) (drainOf releasePast k) (drainOf releasePast k) (arenaWords a₀) r₀
+Inv-loop a₀ r₀ k a r = (length a ≡ length a₀) × (length r ≡ length r₀) × Way (Unit {0}) (drainOf takeCache releasePast k) (drainOf takeCache releasePast k) (arenaWords a₀) r₀
     (arenaWords a) r
 
 abbrev μ-loop : tie.MeasureT-loop
 μ-loop a₀ r₀ k a r = getD r (cacheCount k) 0
 
 loop-holds : tie.Need-loop-holds Inv-loop μ-loop
-loop-holds c = (refl, refl, way-here (drainOf releasePast (c .before .before .args .k)) _ _)
+loop-holds c = (refl, refl, way-here (drainOf takeCache releasePast (c .before .before .args .k)) _ _)
 
 add-if1 : tie.Need-add-if1 Inv-loop μ-loop
 add-if1 c = omega arith
@@ -45,17 +46,17 @@ take-cache-requires c κs =
 
 release-past-requires : tie.Need-release-past-requires Inv-loop μ-loop
 release-past-requires c κs =
-    let t = c .before .before .before .before in
+    let t = c .before .before .before .before .before .before in
     let i = t .before .before .before in
     let l = i .before .before in
     let s = l .before .before .before in
     let R = l .loop .inv .2 .reach (s .pre .1 .heap) (s .pre .1 .ok) (s .pre .1 .holds) in
-    popped-has releasePast Cached releasePast-leaves (s .args .k) (omega (arith, s .pre .0)) (s .pre .0) _ _ _ (R .ok) (R .good)
+    taken-has takeCache releasePast Cached take-head take-takes releasePast-leaves (s .args .k) (omega (arith, s .pre .0)) (s .pre .0) _ _ _ (R .ok) (R .good)
     (cache-some _ _ _ (R .ok) _ (s .pre .0) (i .if1 .taken)) (t .take-cache .ensures)
 
 loop-less : tie.Need-loop-less Inv-loop μ-loop
 loop-less c =
-    let t = c .before .before .before .before .before .before .before .before .before in
+    let t = c .before .before .before .before .before .before .before .before .before .before .before in
     let i = t .before .before .before in
     let l = i .before .before in
     let s = l .before .before .before in
@@ -66,16 +67,16 @@ loop-less c =
 loop-again : tie.Need-loop-again Inv-loop μ-loop
 loop-again c =
     let j = c .before .before .before .before in
-    let t = j .before .before .before .before .before in
+    let t = j .before .before .before .before .before .before .before in
     let i = t .before .before .before in
     let l = i .before .before in
     let s = l .before .before .before in (
-      j .release-past .kept .0 ∙ l .loop .inv .0,
+      j .release-past .kept .0 ∙ t .take-cache .kept .0 ∙ l .loop .inv .0,
       j .release-past .kept .1 .0 ∙ t .take-cache .kept .1 .0 ∙ l .loop .inv .1,
       record {
         reach = λ h o g.
             let R = l .loop .inv .2 .reach h o g in
-            drain-next releasePast Cached releasePast-leaves (s .args .k) (omega (arith, s .pre .0)) (s .pre .0) R
+            drain-next takeCache releasePast Cached take-head take-takes releasePast-leaves (s .args .k) (omega (arith, s .pre .0)) (s .pre .0) R
             (cache-some _ _ _ (R .ok) _ (s .pre .0) (i .if1 .taken)) (t .take-cache .ensures) (j .release-past .ensures);
       },
     )
@@ -93,7 +94,7 @@ returns c =
     record {
       does = λ h o g.
           let R = l .loop .inv .2 .reach h o g in
-          drain-done releasePast Cached releasePast-leaves (s .args .k) (omega (arith, s .pre .0)) (s .pre .0) R
+          drain-done takeCache releasePast Cached take-head take-takes releasePast-leaves (s .args .k) (omega (arith, s .pre .0)) (s .pre .0) R
           (cache-empty _ _ _ (R .ok) _ (s .pre .0) (c .if1 .left));
     }
 

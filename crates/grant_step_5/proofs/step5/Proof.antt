@@ -94,13 +94,13 @@ swept-requires c κs =
     (s .pre .1, record { heap = R .heap; ok = R .ok; holds = R .full })
 
 same-length-3 : tie.Need-same-length-3 Inv-loop μ-loop
-same-length-3 c = c .before .before .before .before .before .before .loop .inv .0
+same-length-3 c = c .before .before .before .before .swept .kept .0 ∙ c .before .before .before .before .before .before .before .before .loop .inv .0
 
 same-length-4 : tie.Need-same-length-4 Inv-loop μ-loop
-same-length-4 c = c .before .before .swept .kept .1 .0 ∙ c .before .before .before .before .before .before .loop .inv .1
+same-length-4 c = c .before .before .before .before .swept .kept .1 .0 ∙ c .before .before .before .before .before .before .before .before .loop .inv .1
 
 returns-2 : tie.Need-returns-2 Inv-loop μ-loop
-returns-2 c = record { does = λ h o g. reach-does (reach-over (c .before .before .before .before .before .loop-test .left) (c .before .before .before .before .before .before .loop .inv .2 h o g)) (c .before .before .swept .ensures) }
+returns-2 c = record { does = λ h o g. reach-does (reach-over (c .before .before .before .before .before .before .before .loop-test .left) (c .before .before .before .before .before .before .before .before .loop .inv .2 h o g)) (c .before .before .before .before .swept .ensures) }
 
 pub step5-spec : {M : Type 1} → statement M
 step5-spec =

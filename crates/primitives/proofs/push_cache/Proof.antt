@@ -1,4 +1,4 @@
--- `primitives::push_cache` meets its contract: `push-cache-gave` says what the link and the two words come to. Assumes nothing.
+-- `primitives::push_cache` meets its contract: `push-cache-gave` says what the link, the key and the two words come to. Assumes nothing.
 use mathlib.Core.Path.{refl}
 use native.Mathlib.Omega.{arith}
 use lib.ListN.{length, length-set}
@@ -36,8 +36,14 @@ link-of-requires c κs = search needs
 set-fwd-requires : tie.Need-set-fwd-requires
 set-fwd-requires c κs = let i = inside (c .before .before .before .before .before .before) in (omega arith, omega arith)
 
+key-in-requires : tie.Need-key-in-requires
+key-in-requires c κs = ok-length _ _ _ (c .before .before .before .before .before .before .before .before .before .before .before .pre .1 .ok)
+
+set-key-requires : tie.Need-set-key-requires
+set-key-requires c κs = let i = inside (c .before .before .before .before .before .before .before .before .before .before .before .before) in (omega arith, omega (arith, c .before .before .before .before .before .set-fwd .kept .0))
+
 cast-r : tie.Need-cast-r
-cast-r c = record { fits = omega (arith, inside (c .before .before .before .before .before .before .before .before .before .before) .small) }
+cast-r c = record { fits = omega (arith, inside (c .before .before .before .before .before .before .before .before .before .before .before .before .before .before .before .before) .small) }
 
 add-r : tie.Need-add-r
 add-r c = search needs
@@ -46,10 +52,10 @@ mul-r : tie.Need-mul-r
 mul-r c = search needs
 
 slice-write-r : tie.Need-slice-write-r
-slice-write-r c = omega (arith, ok-length _ _ _ (c .before .before .before .before .before .before .before .before .before .before .pre .1 .ok))
+slice-write-r c = omega (arith, ok-length _ _ _ (c .before .before .before .before .before .before .before .before .before .before .before .before .before .before .before .before .pre .1 .ok))
 
 add-r-2 : tie.Need-add-r-2
-add-r-2 c = let s = c .before .before .before .before .before .before .before .before .before .before in omega (arith, ok-cacheCount _ _ _ (s .pre .1 .ok) (s .args .k) (s .pre .0), s .pre .1 .holds .1)
+add-r-2 c = let s = c .before .before .before .before .before .before .before .before .before .before .before .before .before .before .before .before in omega (arith, ok-cacheCount _ _ _ (s .pre .1 .ok) (s .args .k) (s .pre .0), s .pre .1 .holds .1)
 
 add-r-3 : tie.Need-add-r-3
 add-r-3 c = search needs
@@ -58,7 +64,7 @@ mul-r-2 : tie.Need-mul-r-2
 mul-r-2 c = search needs
 
 slice-write-r-2 : tie.Need-slice-write-r-2
-slice-write-r-2 c = simp length-set (omega (arith, ok-length _ _ _ (c .before .before .before .before .before .before .before .before .before .before .pre .1 .ok)))
+slice-write-r-2 c = simp length-set (omega (arith, ok-length _ _ _ (c .before .before .before .before .before .before .before .before .before .before .before .before .before .before .before .before .pre .1 .ok)))
 
 same-length : tie.Need-same-length
 same-length c = search needs
@@ -68,10 +74,10 @@ same-length-2 c = search needs
 
 returns : tie.Need-returns
 returns c =
-    let s = c .before .before .before .before .before .before .before .before .before .before in
-    record { does = λ h o m. push-cache-gave h _ _ o (s .args .k) (s .args .c .0) _ _ _ (s .pre .0) (c .before .before .before .before .link-of .ensures) (c .before .before .before .set-fwd .ensures) refl }
+    let s = c .before .before .before .before .before .before .before .before .before .before .before .before .before .before .before .before in
+    record { does = λ h o m. push-cache-gave h _ _ o (s .args .k) (s .args .c .0) _ _ _ _ _ (s .pre .0) (c .before .before .before .before .before .before .before .before .before .before .link-of .ensures) (c .before .before .before .before .before .before .before .before .before .set-fwd .ensures) (c .before .before .before .before .key-in .ensures) (c .before .before .before .set-key .ensures) refl }
 
 pub push-cache-spec : {M : Type 1} → statement M
 push-cache-spec =
     tie.close
-    (tie.spec add-x mul-x slice-read-x add-n mul-n slice-read-n link-of-requires set-fwd-requires cast-r add-r mul-r slice-write-r add-r-2 add-r-3 mul-r-2 slice-write-r-2 same-length same-length-2 returns)
+    (tie.spec add-x mul-x slice-read-x add-n mul-n slice-read-n link-of-requires set-fwd-requires key-in-requires set-key-requires cast-r add-r mul-r slice-write-r add-r-2 add-r-3 mul-r-2 slice-write-r-2 same-length same-length-2 returns)

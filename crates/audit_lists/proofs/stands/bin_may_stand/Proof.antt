@@ -9,28 +9,28 @@ back-at-requires : tie.Need-back-at-requires
 back-at-requires c κs = let s = c .before .pre .0 in (omega (arith, s .even), omega (arith, s .inside))
 
 returns : tie.Need-returns
-returns c =
+returns c v r =
     let s = c .before .before .before .before .before in
     let w = arenaWords (s .args .a .now) in
-    bin-back (s .args .j) (s .args .p .0) (s .args .c .0) w (s .args .s) _ (record { size = s .pre .0 .size; own = s .pre .1; back = c .before .before .before .back-at .ensures }) (c .if1 .taken)
+    bin-back v (s .args .j) (s .args .p .0) (s .args .c .0) w r (s .args .s) _ (record { size = s .pre .0 .size; own = s .pre .1; back = c .before .before .before .back-at .ensures }) (c .if1 .taken)
 
 returns-2 : tie.Need-returns-2
-returns-2 c =
+returns-2 c v r =
     let s = c .before .before .before .before .before .before in
     let w = arenaWords (s .args .a .now) in
-    bin-small (s .args .j) (s .args .p .0) (s .args .c .0) w (s .args .s) _ (record { size = s .pre .0 .size; own = s .pre .1; back = c .before .before .before .before .back-at .ensures }) (c .before .if1 .left) (c .if2 .taken)
+    bin-small v (s .args .j) (s .args .p .0) (s .args .c .0) w r (s .args .s) _ (record { size = s .pre .0 .size; own = s .pre .1; back = c .before .before .before .before .back-at .ensures }) (c .before .if1 .left) (c .if2 .taken)
 
 returns-3 : tie.Need-returns-3
-returns-3 c =
+returns-3 c v r =
     let s = c .before .before .before .before .before .before .before .before in
     let w = arenaWords (s .args .a .now) in
-    bin-first (s .args .j) (s .args .p .0) (s .args .c .0) w (s .args .s) _ (record { size = s .pre .0 .size; own = s .pre .1; back = c .before .before .before .before .before .before .back-at .ensures }) (c .before .before .before .if1 .left) (c .before .before .if2 .left) (c .if3 .taken)
+    bin-first v (s .args .j) (s .args .p .0) (s .args .c .0) w r (s .args .s) _ (record { size = s .pre .0 .size; own = s .pre .1; back = c .before .before .before .before .before .before .back-at .ensures }) (c .before .before .before .if1 .left) (c .before .before .if2 .left) (c .if3 .taken)
 
 returns-4 : tie.Need-returns-4
-returns-4 c =
+returns-4 c v r =
     let s = c .before .before .before .before .before .before .before .before in
     let w = arenaWords (s .args .a .now) in
-    bin-order (s .args .j) (s .args .p .0) (s .args .c .0) w (s .args .s) _ (record { size = s .pre .0 .size; own = s .pre .1; back = c .before .before .before .before .before .before .back-at .ensures }) (s .args .q) (c .before .before .before .if1 .left) (c .before .before .if2 .left) (c .if3 .left) (s .pre .0 .before (c .if3 .left))
+    bin-order v (s .args .j) (s .args .p .0) (s .args .c .0) w r (s .args .s) _ (record { size = s .pre .0 .size; own = s .pre .1; back = c .before .before .before .before .before .before .back-at .ensures }) (s .args .q) (c .before .before .before .if1 .left) (c .before .before .if2 .left) (c .if3 .left) (s .pre .0 .before (c .if3 .left))
 
 pub bin-may-stand-spec : {M : Type 1} → statement M
 bin-may-stand-spec = tie.close (tie.spec back-at-requires returns returns-2 returns-3 returns-4)

@@ -12,7 +12,7 @@ use Rattle.calls.proofs.call_open.open.Statement.{statement}
 use Rattle.calls.proofs.call_open.open.Tie as tie
 
 returns : tie.Need-returns
-returns c = open-small _ _ (ne-eqb _ _ (c .if1 .taken))
+returns c = open-small _ _ _ (ne-eqb _ _ (c .if1 .taken))
 
 allowed-requires : tie.Need-allowed-requires
 allowed-requires c κs = search needs
@@ -36,7 +36,7 @@ same-length c = c .before .before .write-words .kept .0
 returns-2 : tie.Need-returns-2
 returns-2 c =
     kept _ _ _ _ (c .before .before .write-words .ensures ∙ ap (bytes 4) (c .before .before .before .before .before .before .fill .ensures))
-    (open-refused _ _ (eq-eqb _ _ (c .before .before .before .before .before .before .before .before .before .before .if1 .left)) (sym (c .before .before .before .before .before .before .before .before .before .allowed .ensures) ∙ not-true _ (c .before .before .before .before .before .before .before .before .if2 .taken)))
+    (open-refused _ _ _ (eq-eqb _ _ (c .before .before .before .before .before .before .before .before .before .before .if1 .left)) (sym (c .before .before .before .before .before .before .before .before .before .allowed .ensures) ∙ not-true _ (c .before .before .before .before .before .before .before .before .if2 .taken)))
 
 slice-aggregate-fill-2 : tie.Need-slice-aggregate-fill-2
 slice-aggregate-fill-2 c = search needs
@@ -68,7 +68,7 @@ returns-3 c =
     let f = sym (c .before .before .before .before .before .before .before .before .before .before .before .before .before .allowed .ensures) ∙ not-false _ (c .before .before .before .before .before .before .before .before .before .before .before .before .if2 .left) in
     let l = allowed-true (length (c .before .before .before .before .before .before .before .before .before .before .before .before .before .before .before .before .before .args .arena .now)) f in
     kept _ _ _ _ (c .before .before .before .before .before .before .write-words2 .ensures ∙ ap (bytes 4) (c .before .before .before .before .before .before .before .before .before .before .fill2 .ensures))
-    (open-done _ _ _ (eq-eqb _ _ (c .before .before .before .before .before .before .before .before .before .before .before .before .before .before .if1 .left)) f (record { even = omega (arith, c .before .before .set-size .kept .0); small = λ i. omega (arith, c .slice-known5 .given i) }) (c .before .before .set-size .ensures))
+    (open-done _ _ _ _ (eq-eqb _ _ (c .before .before .before .before .before .before .before .before .before .before .before .before .before .before .if1 .left)) f (record { even = omega (arith, c .before .before .set-size .kept .0); small = λ i. omega (arith, c .slice-known5 .given i) }) (c .before .before .set-size .ensures))
 
 pub open-spec : {M : Type 1} → statement M
 open-spec =

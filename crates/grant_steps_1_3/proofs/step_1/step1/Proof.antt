@@ -28,7 +28,7 @@ take-cache-requires : tie.Need-take-cache-requires
 take-cache-requires c κs = (c .before .before .before .before .cache-list .ensures .1, has1 (c .before .before .before .before .before .before .before .before .args .b) _ (c .before .before .before .before .before .if1 .left) (c .before .before .before .before .cache-list .ensures .0) _ _ (c .before .before .if2 .left) (c .before .before .before .before .before .before .before .before .pre .3))
 
 cast-t10 : tie.Need-cast-t10
-cast-t10 c = record { fits = omega (arith, small1 (c .before .before .before .before .before .before .before .before .before .before .before .before .args .b) _ (c .before .before .before .before .before .before .before .before .before .if1 .left) (c .before .before .before .before .before .before .before .before .cache-list .ensures .0) _ _ (c .before .before .before .before .before .before .if2 .left) _ _ (c .before .before .before .take-cache .ensures) (c .before .before .before .before .before .before .before .before .before .before .before .before .pre .3)) }
+cast-t10 c = record { fits = omega (arith, small1 (c .before .before .before .before .before .before .before .before .before .before .before .before .before .before .args .b) _ (c .before .before .before .before .before .before .before .before .before .before .before .if1 .left) (c .before .before .before .before .before .before .before .before .before .before .cache-list .ensures .0) _ _ (c .before .before .before .before .before .before .before .before .if2 .left) _ _ _ (c .before .before .before .before .before .take-cache .ensures) (c .before .before .before .before .before .before .before .before .before .before .before .before .before .before .pre .3)) }
 
 same-length : tie.Need-same-length
 same-length c = search needs
@@ -37,7 +37,7 @@ same-length-2 : tie.Need-same-length-2
 same-length-2 c = search needs
 
 returns-3 : tie.Need-returns-3
-returns-3 c = took1 (c .before .before .before .before .before .before .before .before .before .before .before .before .args .b) _ (c .before .before .before .before .before .before .before .before .before .if1 .left) (c .before .before .before .before .before .before .before .before .cache-list .ensures .0) _ _ (c .before .before .before .before .before .before .if2 .left) _ _ (c .before .before .before .take-cache .ensures)
+returns-3 c = took1 (c .before .before .before .before .before .before .before .before .before .before .before .before .before .before .args .b) _ (c .before .before .before .before .before .before .before .before .before .before .before .if1 .left) (c .before .before .before .before .before .before .before .before .before .before .cache-list .ensures .0) _ _ (c .before .before .before .before .before .before .before .before .if2 .left) _ _ _ (c .before .before .before .before .before .take-cache .ensures)
 
 pub step1-spec : {M : Type 1} → statement M
 step1-spec =

@@ -1,9 +1,8 @@
 -- `picture::put_picture` meets its contract: where there are tiles to show, the shape and the tiles are good. Assumes nothing.
-use mathlib.Core.Path.{sym, ap, _∙_}
+use mathlib.Core.Path.{sym, _∙_}
 use borrow.Author.Tests.{not-true, not-false}
 use borrow.Author.Needs.{needs}
 use Rattle.audit_walks.specs.Tests.{false-true}
-use Rattle.image_text.specs.ImageText.{tiled?}
 use Rattle.image_text.proofs.Shown.{Shown, tiled-shown}
 use Rattle.image_svg.proofs.Pictures.{shows-of}
 use Rattle.image_svg.proofs.picture.put_picture.Statement.{statement}
@@ -13,10 +12,10 @@ use Rattle.image_svg.proofs.picture.put_picture.Tie as tie
 abbrev start : tie.Else1 → tie.Start
 start d = d .before .before .before .before .before .before .before .before .before .before
 
-shown : (d : tie.Else1) → Shown (start d .args .arena .now) (start d .args .control .now)
+shown : (d : tie.Else1) → Shown (start d .args .v) (start d .args .arena .now) (start d .args .control .now)
 shown d =
     let s = start d in
-    tiled-shown (s .args .arena .now) (s .args .control .now) (sym (ap tiled? (s .pre .0)) ∙ sym (d .before .tiled .ensures) ∙ not-false _ (d .if1 .left))
+    tiled-shown (s .args .v) (s .args .arena .now) (s .args .control .now) (s .args .x) (s .pre .0) (sym (d .before .tiled .ensures) ∙ not-false _ (d .if1 .left))
 
 rows-of-requires : tie.Need-rows-of-requires
 rows-of-requires c κs = search needs
@@ -64,7 +63,7 @@ returns-2 c =
     let p = c .before .before in
     let r = p .before .before .before .before .before in
     let s = r .before .before .before .before .before .before .before .before .before .before .before .before in
-    (search needs, λ yes. shows-of (s .args .arena .now) (s .args .control .now) (r .read-words .ensures) (p .put-tiled .ensures .1))
+    (search needs, λ yes. shows-of (s .args .v) (s .args .arena .now) (s .args .control .now) (r .read-words .ensures) (p .put-tiled .ensures .1))
 
 pub put-picture-spec : {M : Type 1} → statement M
 put-picture-spec =

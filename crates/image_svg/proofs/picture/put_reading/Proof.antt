@@ -1,6 +1,7 @@
 -- `picture::put_reading` meets its contract: a line for each refusal, or the picture. Assumes nothing.
 use borrow.Author.Needs.{needs}
-use Rattle.image_svg.proofs.Pictures.{pictured-of}
+use Rattle.image.specs.Image.{versionIn}
+use Rattle.image_svg.proofs.Pictures.{pictured-of, heap-pictured-of}
 use Rattle.image_svg.proofs.picture.put_reading.Statement.{statement}
 use Rattle.image_svg.proofs.picture.put_reading.Tie as tie
 
@@ -17,8 +18,8 @@ returns : tie.Need-returns
 returns c =
     let w = c .before .before in
     let x = w .before .before in
-    let s = x .before .before .before .before .before in
-    (search needs, pictured-of (s .args .arena .now) (s .args .control .now) _ (x .enum-told .given .1) (w .put-question .ensures .1))
+    let s = x .before .before .before .before .before .before in
+    (search needs, pictured-of (versionIn (s .args .file .now)) (s .args .arena .now) (s .args .control .now) _ (x .enum-told .given .1) (w .put-question .ensures .1))
 
 enum-told-2 : tie.Need-enum-told-2
 enum-told-2 c = search needs
@@ -33,8 +34,8 @@ returns-2 : tie.Need-returns-2
 returns-2 c =
     let w = c .before .before in
     let x = w .before .before in
-    let s = x .before .before .before .before .before in
-    (search needs, pictured-of (s .args .arena .now) (s .args .control .now) _ (x .enum-told2 .given .1) (w .put-question2 .ensures .1))
+    let s = x .before .before .before .before .before .before in
+    (search needs, pictured-of (versionIn (s .args .file .now)) (s .args .arena .now) (s .args .control .now) _ (x .enum-told2 .given .1) (w .put-question2 .ensures .1))
 
 enum-told-3 : tie.Need-enum-told-3
 enum-told-3 c = search needs
@@ -49,14 +50,24 @@ returns-3 : tie.Need-returns-3
 returns-3 c =
     let w = c .before .before in
     let x = w .before .before in
-    let s = x .before .before .before .before .before in
-    (search needs, pictured-of (s .args .arena .now) (s .args .control .now) _ (x .enum-told3 .given .1) (w .put-question3 .ensures .1))
+    let s = x .before .before .before .before .before .before in
+    (search needs, pictured-of (versionIn (s .args .file .now)) (s .args .arena .now) (s .args .control .now) _ (x .enum-told3 .given .1) (w .put-question3 .ensures .1))
 
 enum-known-x : tie.Need-enum-known-x
 enum-known-x c = search needs
 
+version-in-requires : tie.Need-version-in-requires
+version-in-requires c κs =
+    let x = c .before .before in
+    let s = x .before .before .before .before .before .before in
+    s .pre .0 _ (x .x .given .1) .0
+
 put-picture-requires : tie.Need-put-picture-requires
-put-picture-requires c κs = (c .before .before .before .before .before .before .before .pre .0 _ (c .before .before .x .given .1), search needs)
+put-picture-requires c κs =
+    let x = c .before .before .before in
+    let s = x .before .before .before .before .before .before in
+    let k = s .pre .0 _ (x .x .given .1) .1 in
+    (rw (c .version-in .ensures) k, search needs)
 
 same-length-4 : tie.Need-same-length-4
 same-length-4 c = search needs
@@ -64,9 +75,10 @@ same-length-4 c = search needs
 returns-4 : tie.Need-returns-4
 returns-4 c =
     let w = c .before .before in
-    let x = w .before .before .before in
-    let s = x .before .before .before .before .before in
-    (search needs, pictured-of (s .args .arena .now) (s .args .control .now) _ (x .x .given .1) (w .put-picture .ensures .1))
+    let v = w .before in
+    let x = v .before .before .before in
+    let s = x .before .before .before .before .before .before in
+    (search needs, heap-pictured-of (s .args .file .now) (s .args .arena .now) (s .args .control .now) _ (x .x .given .1) (v .version-in .ensures) (w .put-picture .ensures .1))
 
 pub put-reading-spec : {M : Type 1} → statement M
 put-reading-spec =
@@ -85,6 +97,7 @@ put-reading-spec =
     same-length-3
     returns-3
     enum-known-x
+    version-in-requires
     put-picture-requires
     same-length-4
     returns-4)

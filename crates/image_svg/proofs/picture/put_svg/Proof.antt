@@ -25,9 +25,10 @@ put-reading-requires : tie.Need-put-reading-requires
 put-reading-requires c κs =
     let r = c .before .before .before .before .before .before .before in
     let l = r .before .before .before .before .length-in in
-    let s = r .before .before .before .before .before .before .before .before .before in
+    let f = r .before .before .before .before .before .before .before in
+    let s = f .before .before in
     let few : length (take (l .result) (s .args .arena .now)) ≤ 262144 = simp length-take (omega (arith, l .ensures .0)) in
-    (read-audited _ _ _ _ _ _ (r .read-image .ensures), (omega (arith, r .read-image .kept .1 .0, few), search needs))
+    (read-audited _ _ _ _ _ _ (λ i. let h = f .shared-slice-known .given i in search needs) (r .read-image .ensures), (omega (arith, r .read-image .kept .1 .0, few), search needs))
 
 same-length : tie.Need-same-length
 same-length c = search needs

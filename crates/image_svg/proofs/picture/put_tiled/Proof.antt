@@ -34,7 +34,7 @@ returns c =
     let p = e .before .before .before .before .before in
     let w = p .before .before .before .before in
     let s = w .before .before .before .before .before .before .before .before .before .before .before in
-    (search needs, rects-in (s .args .a .now) (s .args .r .now) _ (w .put-bytes .ensures .1) (p .put-reached .ensures .1) (e .put-bytes2 .ensures .1))
+    (search needs, rects-in (s .args .v) (s .args .a .now) (s .args .r .now) _ (w .put-bytes .ensures .1) (p .put-reached .ensures .1) (e .put-bytes2 .ensures .1))
 
 pub put-tiled-spec : {M : Type 1} → statement M
 put-tiled-spec =

@@ -1,7 +1,6 @@
 -- `image_svg::rows::put_rows` meets its contract: a row is 320 bytes at most; the measure is the rows to come. Assumes nothing.
 use mathlib.Core.Path.{_≡_}
 use Prim.Native.Nat.{_+_, _-_, _*_, _≤_}
-use native.Mathlib.Omega.{arith}
 use lib.ListN.{length}
 use borrow.Author.Needs.{needs}
 use Rattle.image_svg.proofs.rows.put_rows.Statement.{statement}

@@ -13,9 +13,6 @@ slice-aggregate-put-bytes c = search needs
 put-bytes-requires : tie.Need-put-bytes-requires
 put-bytes-requires c κs = search needs
 
-cast-put-field : tie.Need-cast-put-field
-cast-put-field c = search needs
-
 put-field-requires : tie.Need-put-field-requires
 put-field-requires c κs = search needs
 
@@ -45,7 +42,6 @@ put-head-spec =
     (tie.spec
     slice-aggregate-put-bytes
     put-bytes-requires
-    cast-put-field
     put-field-requires
     put-field-requires-2
     put-byte-requires

@@ -1,9 +1,8 @@
 -- `whole::put_heap` meets its contract: head and answer, and where there are tiles to show, the tiles. Assumes nothing.
-use mathlib.Core.Path.{sym, ap, _∙_}
+use mathlib.Core.Path.{sym, _∙_}
 use native.Mathlib.Omega.{arith}
 use borrow.Author.Tests.{not-true, not-false}
 use borrow.Author.Needs.{needs}
-use Rattle.image_text.specs.ImageText.{tiled?}
 use Rattle.image_text.proofs.Shown.{Shown, tiled-shown}
 use Rattle.image_text.proofs.Heaps.{heap-short, heap-long}
 use Rattle.image_text.proofs.whole.put_heap.Statement.{statement}
@@ -13,10 +12,10 @@ use Rattle.image_text.proofs.whole.put_heap.Tie as tie
 abbrev start : tie.Else1 → tie.Start
 start d = d .before .before .before .before .before .before .before .before .before .before .before .before .before
 
-shown : (d : tie.Else1) → Shown (start d .args .arena .now) (start d .args .control .now)
+shown : (d : tie.Else1) → Shown (start d .args .v) (start d .args .arena .now) (start d .args .control .now)
 shown d =
     let s = start d in
-    tiled-shown (s .args .arena .now) (s .args .control .now) (sym (ap tiled? (s .pre .0)) ∙ sym (d .before .tiled .ensures) ∙ not-false _ (d .if1 .left))
+    tiled-shown (s .args .v) (s .args .arena .now) (s .args .control .now) (s .args .x) (s .pre .0) (sym (d .before .tiled .ensures) ∙ not-false _ (d .if1 .left))
 
 put-head-requires : tie.Need-put-head-requires
 put-head-requires c κs = search needs
@@ -37,7 +36,7 @@ returns c =
     let h = x .before .before .before .before in
     let s = h .before .before .before .before .before in
     let no = sym (t .tiled .ensures) ∙ not-true _ (c .if1 .taken) in
-    (search needs, heap-short (s .args .arena .now) (s .args .control .now) (s .args .x) no (h .put-head .ensures .1) (x .put-audit .ensures .1))
+    (search needs, heap-short (s .args .v) (s .args .arena .now) (s .args .control .now) (s .args .x) no (h .put-head .ensures .1) (x .put-audit .ensures .1))
 
 slice-aggregate-read-words : tie.Need-slice-aggregate-read-words
 slice-aggregate-read-words c = search needs
@@ -66,7 +65,7 @@ returns-2 c =
     let s = h .before .before .before .before .before in
     let yes = sym (i .before .tiled .ensures) ∙ not-false _ (i .if1 .left) in (
       omega (arith, shown i .arena .small),
-      heap-long (s .args .arena .now) (s .args .control .now) (s .args .x) _ yes (h .put-head .ensures .1) (x .put-audit .ensures .1) (r .read-words .ensures)
+      heap-long (s .args .v) (s .args .arena .now) (s .args .control .now) (s .args .x) _ yes (h .put-head .ensures .1) (x .put-audit .ensures .1) (r .read-words .ensures)
           (p .put-reached .ensures .1),
     )
 

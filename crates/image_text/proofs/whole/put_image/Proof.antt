@@ -21,7 +21,10 @@ read-image-requires : tie.Need-read-image-requires
 read-image-requires c κs = search needs
 
 put-reading-requires : tie.Need-put-reading-requires
-put-reading-requires c κs = (read-audited _ _ _ _ _ _ (c .before .before .before .before .before .before .before .read-image .ensures), search needs)
+put-reading-requires c κs =
+    let r = c .before .before .before .before .before .before .before in
+    let f = r .before .before .before .before .before .before .before in
+    (read-audited _ _ _ _ _ _ (λ i. let h = f .shared-slice-known .given i in search needs) (r .read-image .ensures), search needs)
 
 same-length : tie.Need-same-length
 same-length c = search needs

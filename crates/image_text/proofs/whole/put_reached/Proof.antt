@@ -33,7 +33,7 @@ reach-requires c κs =
     let t = c .before .before in
     let s = t .before .before .before .before .before .before in
     let f = t .tile-fault in
-    let ok = f .ensures .is ∙ words-shown (arenaWords (s .args .a .now)) (s .args .r .now) (s .pre .0 .2) in
+    let ok = f .ensures .is ∙ words-shown _ (arenaWords (s .args .a .now)) (s .args .r .now) (s .pre .0 .2) in
     (record { arena = s .pre .0 .0; room = omega (arith, f .kept .1 .1 .0, s .pre .0 .0 .small) }, s .pre .0 .1, f .ensures .marks ok)
 
 slice-aggregate-put-tiles : tie.Need-slice-aggregate-put-tiles
@@ -46,7 +46,7 @@ put-tiles-requires c κs =
     let s = t .before .before .before .before .before .before in
     let w = arenaWords (s .args .a .now) in
     let f = t .tile-fault in
-    let ok = f .ensures .is ∙ words-shown w (s .args .r .now) (s .pre .0 .2) in
+    let ok = f .ensures .is ∙ words-shown _ w (s .args .r .now) (s .pre .0 .2) in
     let g = flagging w (s .args .r .now) _ _ (f .ensures) ok in
     ((record { arena = s .pre .0 .0; room = omega (arith, f .kept .1 .1 .0, r .reach .kept .1 .1 .0, s .pre .0 .0 .small) }, g), s .pre .1)
 
@@ -57,7 +57,7 @@ returns : tie.Need-returns
 returns c =
     let p = c .before .before in
     let r = p .before .before .before .before in
-    (p .put-tiles .ensures .0, p .put-tiles .ensures .1 _ (r .reach .ensures))
+    (p .put-tiles .ensures .0, p .put-tiles .ensures .1 _ _ (r .reach .ensures))
 
 pub put-reached-spec : {M : Type 1} → statement M
 put-reached-spec =

@@ -1,9 +1,9 @@
--- `look_at`: each class of marks is cleared and long enough. Assumes nothing.
+-- `look_by`: each class of marks is cleared and long enough. Assumes nothing.
 use native.Mathlib.Omega.{arith}
 use Rattle.audit.specs.Zeros.{zeros-ask}
 use borrow.Author.Needs.{needs}
-use Rattle.audit.proofs.call_look.look_at.Statement.{statement}
-use Rattle.audit.proofs.call_look.look_at.Tie as tie
+use Rattle.audit.proofs.call_look.look_by.Statement.{statement}
+use Rattle.audit.proofs.call_look.look_by.Tie as tie
 
 slice-aggregate-look-with : tie.Need-slice-aggregate-look-with
 slice-aggregate-look-with c = search needs
@@ -49,8 +49,8 @@ look-with-requires-4 c κs =
 returns-4 : tie.Need-returns-4
 returns-4 c = c .before .look-with4 .ensures
 
-pub look-at-spec : {M : Type 1} → statement M
-look-at-spec =
+pub look-by-spec : {M : Type 1} → statement M
+look-by-spec =
     tie.close
     (tie.spec
     slice-aggregate-look-with

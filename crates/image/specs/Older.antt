@@ -1,0 +1,166 @@
+-- What a reading makes of an older image: its answer is the audit, by the rules of the file's version, of what it left; a heap of version 1 that is sound by those
+-- rules is the same heap after it, with key 0, and sound by the newest; an unsound one is left as it stands in the file. Assumes nothing.
+use mathlib.Core.Path.{_≡_, refl, sym, ap, _∙_, subst}
+use mathlib.Core.Bool.{Bool, true, false}
+use mathlib.Core.List.{List, [], _∷_, _++_}
+use mathlib.Core.Logic.{_⊎_, inl, inr, ⊎-elim}
+use Prim.Native.Nat.{ℕ, zero, suc, _+_, _-_, _≤_, _<_}
+use native.Mathlib.Omega.{arith}
+use lib.ListN.{length, getD, take, drop, replicate}
+use lib.Seq.{getD-drop}
+use Rattle.le.specs.Number.{bytes}
+use Rattle.le.specs.WordsLaws.{length-words}
+use Rattle.le.specs.Arena.{arenaWords}
+use Rattle.le.specs.ArenaLaws.{bytes-arenaWords}
+use Rattle.sizes.specs.Limits.{recordBytes}
+use Rattle.machine.specs.Heap.{Heap}
+use Rattle.machine.specs.Writes.{apply}
+use Rattle.machine.specs.Audit.{sound?, auditBy}
+use Rattle.machine.specs.Calls.{shape?, arenaAllowed?, wordsOf, heapIn, auditCall}
+use Rattle.machine.specs.declared.Audited.{Audited}
+use Rattle.machine.specs.declared.Audited.the-variants as A
+use Rattle.sound.specs.Relation.{SoundBy, Sound}
+use Rattle.sound.specs.Tiles.{lt-or-le}
+use Rattle.audit_walks.specs.Tests.{is-sound}
+use Rattle.audit.specs.Exact.{arena-words, audit-sound-by, audit-read, audit-complete, audit-complete-by}
+use Rattle.calls.specs.Ways.{Octets, shape-true, shape-allowed, audit-good}
+use Rattle.calls.specs.Through.{Came, came-arena, words-small}
+use Rattle.calls_consequences.specs.Bytes.{arenaWords-cut}
+use Rattle.calls_consequences.specs.Written.{mem-cut}
+use Rattle.image_keys.specs.Keys.{keysOf, Lacking}
+use Rattle.image_keys.specs.KeysLaws.{keyed-sound}
+use Rattle.image.specs.declared.Reading.the-variants.{Read}
+use Rattle.image.specs.Image.{known?, recordBytesBy, versionIn, recordIn, arenaIn, keyed, afterReading, heapRead, readCall}
+use Rattle.image.specs.Ways.{known-true, heap-new, heap-unsound, heap-keyed, parts-long}
+use Rattle.image.specs.Parts.{TakenFrom, taken, taken-shape}
+
+-- ---- bytes of a file are bytes in its parts
+abbrev pub Small : List ℕ → Type 0
+Small l = (i : ℕ) → getD l i 0 < 256
+
+small-append : (l m : List ℕ) → Small l → Small m → Small (l ++ m)
+small-append [] m s t i = t i
+small-append (x ∷ l) m s t zero = s 0
+small-append (x ∷ l) m s t (suc i) = small-append l m (λ i. s (suc i)) t i
+
+small-take : (n : ℕ) (l : List ℕ) → Small l → Small (take n l)
+small-take zero l s i = omega arith
+small-take (suc n) [] s i = s i
+small-take (suc n) (x ∷ l) s zero = s 0
+small-take (suc n) (x ∷ l) s (suc i) = small-take n l (λ i. s (suc i)) i
+
+small-drop : (n : ℕ) (l : List ℕ) → Small l → Small (drop n l)
+small-drop n l s i = subst (λ (x : ℕ). x < 256) (sym (getD-drop n l i 0)) (s (n + i))
+
+small-zeros : (n : ℕ) → Small (replicate n 0)
+small-zeros zero i = omega arith
+small-zeros (suc n) zero = omega arith
+small-zeros (suc n) (suc i) = small-zeros n i
+
+record-small : (f : List ℕ) → Small f → Small (recordIn f)
+record-small f s = small-append (take (recordBytesBy (versionIn f)) (drop 9 f)) (replicate (recordBytes - recordBytesBy (versionIn f)) 0)
+    (small-take (recordBytesBy (versionIn f)) (drop 9 f) (small-drop 9 f s)) (small-zeros (recordBytes - recordBytesBy (versionIn f)))
+
+-- ---- arena a and record r of version 1, sound by its rules: with its keys the heap is sound by the newest
+old-sound : (a r : List ℕ) → shape? a r ≡ true → Small r → auditBy 1 (arenaWords a) (wordsOf r) ≡ A.Sound → SoundBy 1 (heapIn a r) (arenaWords a) (wordsOf r)
+old-sound a r s small e =
+    let c : Came a r (wordsOf r) = record { shape = s; small = small; words = refl } in
+    audit-sound-by 1 (arenaWords a) (wordsOf r) (arena-words a (came-arena a r (wordsOf r) c)) (length-words 4 395 r) (words-small r small) e
+
+keyed-left : (a r : List ℕ) → shape? a r ≡ true → Small r → auditBy 1 (arenaWords a) (wordsOf r) ≡ A.Sound
+    → Sound (heapIn a r) (arenaWords (keyed (heapIn a r) a)) (wordsOf r)
+keyed-left a r s small e =
+    let S = keyed-sound (heapIn a r) (arenaWords a) (wordsOf r) (old-sound a r s small e) in
+    record {
+      good = S .good;
+      mem = rw (arenaWords-cut (apply (keysOf (heapIn a r)) (arenaWords a))) (mem-cut (heapIn a r) (S .good) (apply (keysOf (heapIn a r)) (arenaWords a)) (S .mem));
+      rec = S .rec;
+    }
+
+-- ---- the ways to read a heap, as the code has it: words q of the record, and the answer x about them
+module _ (v : ℕ) (a r q : List ℕ) (x : Audited) (eq : q ≡ wordsOf r) (ex : x ≡ auditBy v (arenaWords a) q) where
+  by-record : x ≡ auditBy v (arenaWords a) (wordsOf r)
+  by-record = ex ∙ ap (auditBy v (arenaWords a)) eq
+
+  pub read-as-it-is : (2 ≤ v) ⊎ (sound? x ≡ false) → afterReading a r (Read x) ≡ heapRead v a r
+  read-as-it-is d =
+      ap (λ (x : Audited). afterReading a r (Read x)) by-record
+      ∙ ⊎-elim (λ l. heap-new v a r l) (λ e. heap-unsound v a r (ap sound? (sym by-record) ∙ e)) d
+
+  module _ (s : shape? a r ≡ true) (small : Small r) (known : known? v ≡ true) (old : v < 2) (e : sound? x ≡ true) where
+    was-1 : auditBy 1 (arenaWords a) (wordsOf r) ≡ A.Sound
+    was-1 =
+        let k = known-true v known in
+        let one : 1 ≡ v = omega (arith, k .0) in
+        ap (λ (v : ℕ). auditBy v (arenaWords a) (wordsOf r)) one ∙ sym by-record ∙ is-sound x e
+
+    lacks : SoundBy 1 (heapIn a r) (arenaWords a) q
+    lacks = subst (SoundBy 1 (heapIn a r) (arenaWords a)) (sym eq) (old-sound a r s small was-1)
+
+    pub read-lacking : Lacking (arenaWords a) q
+    read-lacking = record { heap = heapIn a r; sound = lacks }
+
+    pub read-keyed : (b : List ℕ) → Octets b → ((h : Heap) → SoundBy 1 h (arenaWords a) q → arenaWords b ≡ apply (keysOf h) (arenaWords a)) → afterReading b r (Read x) ≡ heapRead v a r
+    read-keyed b o k =
+        ap (λ (b : List ℕ). afterReading b r (Read x)) (sym (bytes-arenaWords b (o .even) (o .small)) ∙ ap (bytes 8) (k (heapIn a r) lacks))
+        ∙ ap (λ (x : Audited). afterReading (keyed (heapIn a r) a) r (Read x)) by-record ∙ heap-keyed v a r old (ap sound? (sym by-record) ∙ e)
+
+-- what is sound by the newest rules is sound by those of version 1
+older : {h : Heap} {w r : List ℕ} → Sound h w r → SoundBy 1 h w r
+older s = record {
+  good = s .good;
+  mem = record {
+    long = s .mem .long;
+    words = s .mem .words;
+    chains = s .mem .chains;
+    blinks = s .mem .blinks;
+    keys = λ z. absurd (omega arith);
+    key64 = s .mem .key64;
+  };
+  rec = s .rec;
+}
+
+module _ (f a r b q : List ℕ) (x : Audited) (small : Small f) (e : readCall f a r ≡ afterReading b q (Read x)) where
+  T : TakenFrom f a r b q x
+  T = taken f a r b q x e
+
+  abbrev before : Heap
+  before = heapIn (arenaIn f) (recordIn f)
+
+  -- ---- version 1, and sound by its rules
+  module _ (old : versionIn f < 2) (s : sound? x ≡ true) where
+    one : versionIn f ≡ 1
+    one = let k = known-true (versionIn f) (T .known) in omega (arith, k .0)
+
+    was-sound : auditBy 1 (arenaWords (arenaIn f)) (wordsOf (recordIn f)) ≡ A.Sound
+    was-sound = ap (λ (v : ℕ). auditBy v (arenaWords (arenaIn f)) (wordsOf (recordIn f))) (sym one) ∙ sym (T .audit) ∙ is-sound x s
+
+    left-sound : Sound before (arenaWords b) (wordsOf q)
+    left-sound =
+        let L = parts-long f a r (T .fits) in
+        rw (T .keys old s, T .control) (keyed-left (arenaIn f) (recordIn f) (shape-true (arenaIn f) (recordIn f) (L .1) (ap arenaAllowed? (L .0) ∙ shape-allowed a r (T .fits .shape))) (record-small f small) was-sound)
+
+    -- it is left sound by the newest rules, the same heap
+    pub read-old-sound : (auditCall b q ≡ A.Sound) × (heapIn b q ≡ before)
+    read-old-sound = (
+      sym (audit-good b q (wordsOf q) A.Sound (taken-shape f a r b q x T .0) refl (sym (audit-complete before (arenaWords b) (wordsOf q) left-sound))),
+      audit-read before (arenaWords b) (wordsOf q) left-sound,
+    )
+
+    old-audits : x ≡ auditBy (versionIn f) (arenaWords b) (wordsOf q)
+    old-audits = is-sound x s ∙ sym (ap (λ (v : ℕ). auditBy v (arenaWords b) (wordsOf q)) one ∙ audit-complete-by 1 before (arenaWords b) (wordsOf q) (older left-sound))
+
+  -- ---- unsound by the rules of its version it is as it stands in the file
+  pub read-unsound-as-it-is : sound? x ≡ false → (b ≡ arenaIn f) × (q ≡ recordIn f)
+  read-unsound-as-it-is s = (T .arena (inr s), T .control)
+
+  same-audits : b ≡ arenaIn f → x ≡ auditBy (versionIn f) (arenaWords b) (wordsOf q)
+  same-audits z = T .audit ∙ ap (λ (a : List ℕ). auditBy (versionIn f) (arenaWords a) (wordsOf (recordIn f))) (sym z) ∙ ap (λ (r : List ℕ). auditBy (versionIn f) (arenaWords b) (wordsOf r)) (sym (T .control))
+
+  -- ---- the answer of a reading is the audit, by the rules of the file's version, of what it left
+  pub read-audits : x ≡ auditBy (versionIn f) (arenaWords b) (wordsOf q)
+  read-audits = ⊎-elim (λ l. by l (sound? x) refl) (λ l. same-audits (T .arena (inl l))) (lt-or-le (versionIn f) 2)
+    where
+      by : versionIn f < 2 → (t : Bool) → sound? x ≡ t → x ≡ auditBy (versionIn f) (arenaWords b) (wordsOf q)
+      by l true s = old-audits l s
+      by l false s = same-audits (T .arena (inr s))
