@@ -12,6 +12,7 @@ use Rattle.sizes.specs.Limits.{recordBytes}
 use Rattle.machine.specs.Lists.{both}
 use Rattle.machine.specs.Calls.{arenaAllowed?}
 use Rattle.machine.specs.declared.Audited.{Audited}
+use Rattle.calls.specs.Ways.{allowed-true}
 use Rattle.image.specs.declared.Reading.{Reading}
 use Rattle.image.specs.declared.Reading.the-variants.{Read}
 use Rattle.image.specs.Image.{versionIn, lengthIn, imageBytes, fits?, afterReading, readCall}
@@ -19,7 +20,6 @@ use Rattle.image.specs.Ways.{marked-long, read-no-mark, read-no-version, read-w
 use Rattle.image.specs.Parts.{taken, taken-shape}
 use Rattle.image.specs.Older.{read-audits}
 use Rattle.image_text.specs.ImageText.{AuditedBy, heapText, readText, imageText}
-use Rattle.image_text.proofs.Shown.{allowed-parts}
 
 pub text-of : (v : ℕ) (a r : List ℕ) {t : List ℕ} {x y : Reading} → x ≡ y → t ≡ readText v (afterReading a r y) → t ≡ readText v (afterReading a r x)
 text-of v a r e h = rw e h
@@ -43,7 +43,7 @@ module _ (f : List ℕ) where
       → both (eqb (length a) (lengthIn f)) (eqb (length r) recordBytes) ≡ true
   lent-lengths a r l p q =
       let n : length f ≡ imageBytes (versionIn f) (lengthIn f) = eqb-true (length f) (imageBytes (versionIn f) (lengthIn f)) q in
-      let e : length a ≡ lengthIn f = l .arena (omega arith) (allowed-parts (lengthIn f) p .2) in
+      let e : length a ≡ lengthIn f = l .arena (omega arith) (allowed-true (lengthIn f) p .2) in
       rw (eq-eqb (length a) (lengthIn f) e, both) (eq-eqb (length r) recordBytes (l .long))
 
   pub fits-same : (a r b q : List ℕ) → Lent f a r → Lent f b q → fits? f a r ≡ fits? f b q

@@ -3,22 +3,21 @@
 use mathlib.Core.Path.{_≡_, refl, sym, ap, _∙_}
 use mathlib.Core.List.{List, [], _∷_}
 use mathlib.Core.Bool.{Bool, true, false}
-use Prim.Native.Nat.{ℕ, _+_, _*_, _%_, _≤_}
-use lib.Dec.{eqb, leb}
+use Prim.Native.Nat.{ℕ, _+_, _*_}
+use lib.Dec.{eqb}
 use lib.ListN.{length, getD}
-use borrow.Author.Tests.{eqb-true, leb-true}
 use Rattle.le.specs.Arena.{arenaWords}
 use Rattle.sizes.specs.Layout.{lengthWord, topWord}
 use Rattle.machine.specs.Lists.{both}
 use Rattle.machine.specs.Heap.{Tile}
 use Rattle.machine.specs.View.{tilesOf}
 use Rattle.machine.specs.Audit.{sound?, first, tileOk, tileFault, auditBy}
-use Rattle.machine.specs.Calls.{arenaAllowed?, wordsOf}
+use Rattle.machine.specs.Calls.{wordsOf}
 use Rattle.machine.specs.declared.Audited.{Audited}
 use Rattle.machine.specs.declared.Audited.the-variants as A
-use Rattle.sound.specs.Release.{both-true}
 use Rattle.audit_walks.specs.Tests.{false-true, is-sound}
 use Rattle.audit_walks.specs.Marks.{ArenaBytes}
+use Rattle.calls.specs.Ways.{allowed-true, shape-long, shape-allowed}
 use Rattle.image_text.specs.ImageText.{tiled?, AuditedBy}
 
 -- arena bytes a and record bytes r whose tiles are shown, by the rules of version v
@@ -26,13 +25,6 @@ pub record Shown (v : ℕ) (a r : List ℕ) : Type 0 where
   pub arena : ArenaBytes a
   pub long : length r ≡ 1580
   pub tiled : tiled? (auditBy v (arenaWords a) (wordsOf r)) ≡ true
-
--- ---- the shape
-pub allowed-parts : (n : ℕ) → arenaAllowed? n ≡ true → (n % 16 ≡ 0) × (32 ≤ n) × (n ≤ 262144)
-allowed-parts n e =
-    let p = both-true (eqb (n % 16) 0) (both (leb 32 n) (leb n 262144)) e in
-    let q = both-true (leb 32 n) (leb n 262144) (p .1) in
-    (eqb-true (n % 16) 0 (p .0), leb-true 32 n (q .0), leb-true n 262144 (q .1))
 
 -- ---- record and tiles
 record-shown : (b : Bool) (y : Audited) → tiled? (first (elim b [ true ↦ A.Sound | false ↦ A.Record ]) y) ≡ true → tiled? y ≡ true
@@ -71,6 +63,5 @@ words-shown v w r e =
 
 pub tiled-shown : (v : ℕ) (a r : List ℕ) (x : Audited) → AuditedBy v a r x → tiled? x ≡ true → Shown v a r
 tiled-shown v a r x k e =
-    let p = both-true (eqb (length r) 1580) (arenaAllowed? (length a)) (k .shape) in
-    let l = allowed-parts (length a) (p .1) in
-    record { arena = record { even = l .0; least = l .1; small = l .2 }; long = eqb-true (length r) 1580 (p .0); tiled = sym (ap tiled? (k .is)) ∙ e }
+    let l = allowed-true (length a) (shape-allowed a r (k .shape)) in
+    record { arena = record { even = l .0; least = l .1; small = l .2 }; long = shape-long a r (k .shape); tiled = sym (ap tiled? (k .is)) ∙ e }
