@@ -32,3 +32,17 @@ void plain_read(struct plain_view *view, const uint8_t *arena, uint32_t length,
         paint(view, arena, plain_word(record, plain_bin_first(i)),
               PLAIN_BINNED);
 }
+
+void plain_from_old(uint8_t *arena, uint32_t length, uint8_t *record,
+                    bool sound)
+{
+    static struct plain_view view;
+
+    plain_put_key(record, 0);
+    if (!sound)
+        return;
+    plain_read(&view, arena, length, record);
+    for (uint32_t i = 0; i < view.tiles; i++)
+        if (view.tile[i].state == PLAIN_CACHED)
+            plain_put(arena + view.tile[i].at + 24, 8, 0);
+}

@@ -91,4 +91,12 @@ struct plain_view {
 void plain_read(struct plain_view *view, const uint8_t *arena, uint32_t length,
                 const uint8_t *record);
 
+/*
+ * What a heap from an image of version 1 becomes when it is read: it has the
+ * key 0, and, if it is sound by the rules of that version, 0 in each cached
+ * chunk.
+ */
+void plain_from_old(uint8_t *arena, uint32_t length, uint8_t *record,
+                    bool sound);
+
 #endif

@@ -428,34 +428,21 @@ static struct second_fault round_trip(const struct lent *l, uint64_t seed)
     return f;
 }
 
-/* What an image of version 1 becomes: a copy with the key 0, or more. */
-static struct lent read_from_old(const struct lent *l, bool sound)
-{
-    static struct plain_view view;
-    struct lent as_read = lend(l->length, 0);
-
-    copy_lent(&as_read, l);
-    plain_put_key(as_read.record, 0);
-    view.tiles = 0;
-    if (sound)
-        plain_read(&view, l->arena, (uint32_t)l->length, l->record);
-    for (uint32_t i = 0; i < view.tiles; i++)
-        if (view.tile[i].state == PLAIN_CACHED)
-            plain_put(as_read.arena + view.tile[i].at + 24, 8, 0);
-    return as_read;
-}
-
 /* Reads the heap from an image of version 1; the answer. */
 static struct second_fault old_trip(const struct lent *l, uint64_t seed)
 {
     struct second_fault audit = lent_audit_without_keys(l);
-    struct lent expected = read_from_old(l, audit.kind == SECOND_SOUND);
+    struct lent expected = lend(l->length, 0);
     struct lent back = lend(l->length, 0xb7);
     struct bytes file = image_by_hand(l, 1);
     struct bytes kept = copy_of(file.at, file.length);
     struct second_fault f =
         second_read_image(file.at, file.length, back.arena, back.length,
                           back.record, back.record_len);
+
+    copy_lent(&expected, l);
+    plain_from_old(expected.arena, (uint32_t)expected.length, expected.record,
+                   audit.kind == SECOND_SOUND);
     CHECK(same_fault(f, audit),
           "seed %llu: an old heap is answered %u %u %u, not its audit's",
           (unsigned long long)seed, f.no, f.kind, f.number);

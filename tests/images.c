@@ -226,33 +226,19 @@ static struct guarded old_image_of(const struct lent *l, size_t slack)
     return file;
 }
 
-/* By document 02: the key 0, and in a sound heap 0 in each cached chunk. */
-static struct lent as_read(const struct lent *l, bool sound)
-{
-    static struct plain_view view;
-    struct lent read = lend(l->length, 0);
-
-    copy_lent(&read, l);
-    plain_put_key(read.record, 0);
-    view.tiles = 0;
-    if (sound)
-        plain_read(&view, l->arena, (uint32_t)l->length, l->record);
-    for (uint32_t i = 0; i < view.tiles; i++)
-        if (view.tile[i].state == PLAIN_CACHED)
-            plain_put(read.arena + view.tile[i].at + 24, 8, 0);
-    return read;
-}
-
 /* Both read the pair's heap from such an image, and go on with that. */
 static struct second_fault old_trip(struct pair *p)
 {
     size_t length = p->ours.length, slack = random_below(&p->r, 40);
     struct second_fault audit = lent_audit_without_keys(&p->theirs);
-    struct lent expected = as_read(&p->theirs, audit.kind == SECOND_SOUND);
+    struct lent expected = lend(length, 0);
     struct guarded file = old_image_of(&p->theirs, slack);
     struct guarded arena = guard(length, slack), record = guard(RECORD, slack);
     struct lent ours = between_guards(&arena, &record);
 
+    copy_lent(&expected, &p->theirs);
+    plain_from_old(expected.arena, (uint32_t)length, expected.record,
+                   audit.kind == SECOND_SOUND);
     random_bytes(&p->r, arena.bytes, length);
     random_bytes(&p->r, record.bytes, RECORD);
     random_bytes(&p->r, p->theirs.record, RECORD);
