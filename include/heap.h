@@ -99,7 +99,8 @@
  *   audit            any     as it was                 as it was
  *   write_image      any     as it was                 as it was
  *   read_image       0       the file's; of version 1  the file's; of version
- *                            also keys (below)         1 with the key 0
+ *                            or 2 also skip links, of  1 with the key 0
+ *                            1 also keys (below)
  *   read_image       6, 7, 1 as it was                 as it was
  *
  * The file that heap_read_image reads is as it was; that of heap_write_image is
@@ -154,9 +155,23 @@
  * is read in.
  *
  *
+ * SKIP LINKS
+ *
+ * A free chunk of 1,024 bytes or more that is in a bin has two more links, for
+ * those who look at the arena, as glibc's fd_nextsize and bk_nextsize: in
+ * chunk c, which is mem - 16, the numbers of 64 bits at c + 32 and c + 40. In
+ * bins 64 to 126 the first chunk of each size is linked in a ring, at c + 32 to
+ * that of the next smaller size, at c + 40 to that of the next larger one, the
+ * smallest and the largest being neighbours; a size that is alone in its bin
+ * points to itself. The other chunks of a size, and those in bin 1, have all
+ * ones in both. A chunk that is granted keeps what stands there, and no answer
+ * depends on these links; but the heap is not sound if one of them is wrong,
+ * and audit then names the bin.
+ *
+ *
  * THE IMAGE
  *
- * A heap in a file: the mark HPI (bytes 0 to 2), the version 2 (3 and 4), the
+ * A heap in a file: the mark HPI (bytes 0 to 2), the version 3 (3 and 4), the
  * arena's length (5 to 8), the record (1,580 bytes from 9 on), the arena (from
  * 1,589 on), and nothing behind it. Numbers are little-endian. A heap that is
  * not sound is written like any other, and read back byte for byte with the
@@ -164,13 +179,16 @@
  * (./heapimage). A heap that is read in and sound answers every later call as
  * the one that was written.
  *
- * Images of version 1, from before there was a key, are read as well: the
- * version is 1, the record has 1,572 bytes, and the arena stands at 1,581. The
- * buffer for the record has 1,580 bytes all the same. The key is then 0, the
- * answer is that of an audit which asks no chunk for it, and if that says
- * sound, 0 is written in the second word of every cached chunk, so that later
- * calls find the heap sound too. One that is not sound is copied and nothing
- * more; the next call may then find cached chunks without the key as well.
+ * Older images are read as well. One of version 2, from before there were skip
+ * links, has the same parts. In one of version 1, from before there was a key,
+ * the record has 1,572 bytes, and the arena stands at 1,581; the buffer for the
+ * record has 1,580 bytes all the same, and the key is then 0. The answer is
+ * that of an audit by the rules of the image's version: version 1 asks for
+ * neither keys nor skip links, version 2 for keys alone. If that says sound,
+ * what the heap lacks is written, so that later calls find it sound too: of
+ * both versions the skip links, and of version 1 the key, 0, in the second word
+ * of every cached chunk. One that is not sound is copied and nothing more; the
+ * next call may then find wrong keys and skip links as well.
  *
  *
  * SOUND AND NOT SOUND
@@ -193,8 +211,8 @@
  * or more, the top included, also joins the chunks of the fast lists, as some
  * grants and every joining do; so does a resize, or an emptying, with what it
  * releases. Give a call of grant, release, resize, emptying, joining, audit or
- * read_image HEAP_STACK_BYTES of stack. The most that was measured is 23,705,
- * by a resize, and 22,025 by any other, over 600 random heaps and three where
+ * read_image HEAP_STACK_BYTES of stack. The most that was measured is 23,729,
+ * by a resize, and 22,049 by any other, over 600 random heaps and three where
  * a release, a resize and an emptying join the fast lists, of which 20,000 are
  * marks, one for each 16 bytes of an arena in four sizes of array, and 1,580
  * the record's words, which a resize that is a grant or a release has twice.
@@ -264,7 +282,7 @@ enum heap_kind {
     HEAP_FAULT_CACHE = 3,  /* the cache list, 0 to 63: also for a key that is
                               not the record's */
     HEAP_FAULT_FAST = 4,   /* the fast list, 0 to 9 */
-    HEAP_FAULT_BIN = 5,    /* the bin, 1 to 126 */
+    HEAP_FAULT_BIN = 5,    /* the bin, 1 to 126: also for a wrong skip link */
     HEAP_FAULT_FLAG = 6    /* offset of a chunk that says something wrong of
                               the one before, or is free beside a free one */
 };
@@ -347,7 +365,7 @@ struct heap_fault heap_audit(const uint8_t *arena, size_t arena_len,
                              const uint8_t *record, size_t record_len);
 
 /*
- * Writes the heap's image, of version 2, whether the heap is sound or not.
+ * Writes the heap's image, of version 3, whether the heap is sound or not.
  * Refused with 1, if arena or record has no allowed length, or file_len is not
  * HEAP_IMAGE_BYTES(arena_len); then nothing is written.
  */
@@ -356,9 +374,9 @@ struct heap_answer heap_write_image(const uint8_t *arena, size_t arena_len,
                                     uint8_t *file, size_t file_len);
 
 /*
- * Reads an image of version 2: arena and record are then those that were
- * written, and the answer is what heap_audit says of them. Or one of version 1:
- * THE IMAGE, above, says what becomes of it. Refused with 6, 7 or 1, in that
+ * Reads an image of version 3: arena and record are then those that were
+ * written, and the answer is what heap_audit says of them. Or an older one: THE
+ * IMAGE, above, says what becomes of it. Refused with 6, 7 or 1, in that
  * order; then nothing is written. 1: file_len is under 9; the length in the
  * file is no allowed arena length; file_len is not the image's of that version
  * and length; arena_len is another length; record_len is not

@@ -13,7 +13,10 @@ static uint64_t named(const struct lent *l, unsigned word)
     return v == PLAIN_NONE32 ? PLAIN_NONE64 : v;
 }
 
-/* Takes a chunk out of the bin that holds it, found by reading every bin. */
+/*
+ * Takes a chunk out of the bin that holds it, found by reading every bin; the
+ * rings are then written anew.
+ */
 static void take_out(struct lent *l, uint64_t c)
 {
     unsigned bin = 0;
@@ -32,6 +35,7 @@ static void take_out(struct lent *l, uint64_t c)
         plain_put_word(l->record, plain_bin_last(bin), (uint32_t)back);
     else
         plain_put(l->arena + forward + 24, 8, back);
+    plain_put_skips(l->arena, l->record);
 }
 
 static void put_size(struct lent *l, uint32_t c, uint32_t size)

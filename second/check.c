@@ -163,10 +163,10 @@ struct second_fault lent_audit(const struct lent *l)
     return second_audit(l->arena, l->length, l->record, l->record_len);
 }
 
-struct second_fault lent_audit_without_keys(const struct lent *l)
+struct second_fault lent_audit_by(const struct lent *l, unsigned version)
 {
-    return second_audit_without_keys(l->arena, l->length, l->record,
-                                     l->record_len);
+    return second_audit_by(version, l->arena, l->length, l->record,
+                           l->record_len);
 }
 
 bool lent_sound(const struct lent *l)

@@ -57,7 +57,7 @@ struct second_answer lent_resize(struct lent *l, uint64_t mem, uint64_t n);
 struct second_answer lent_emptying(struct lent *l);
 struct second_answer lent_joining(struct lent *l);
 struct second_fault lent_audit(const struct lent *l);
-struct second_fault lent_audit_without_keys(const struct lent *l);
+struct second_fault lent_audit_by(const struct lent *l, unsigned version);
 bool lent_sound(const struct lent *l);
 
 #endif

@@ -7,7 +7,9 @@
  * a resize being realloc, and every answer must agree, counted from the start
  * of that top. After each call every chunk's size word, the previous sizes
  * that mean something and the links of every binned chunk are compared as
- * well, after a resize also the bytes that the block had from its holder.
+ * well, its skip links too if it is of 1,024 bytes or more, after a resize also
+ * the bytes that the block had from its holder. A null skip link of glibc's is
+ * all ones here.
  *
  * glibc since 2.29 has a key too, by now a random number. It is read off a
  * chunk that glibc has cached, and the second program's arena is opened with
@@ -78,6 +80,7 @@ struct report {
     uint64_t resizes, moved, resizes_refused;
     uint64_t grown; /* sequences ended by a grown top */
     uint64_t keys, zeros, links; /* second words that agreed */
+    uint64_t skips, no_skips, old_skips; /* skip links; those of blocks */
     uint64_t reached[SECOND_PLACE_COUNT];
     bool failed;
     uint64_t seed;
@@ -137,6 +140,32 @@ static uint64_t their_link(const struct duel *d, uint32_t c, uint32_t offset)
     return inside < d->length ? inside : PLAIN_NONE64;
 }
 
+/* Whether it is null, and what it is here; no other leads out of the arena. */
+static uint64_t their_skip(struct duel *d, uint32_t c, uint32_t offset,
+                           bool *null)
+{
+    uint64_t theirs = their_field(d, c, offset), inside = theirs - d->base;
+    *null = theirs == 0;
+    if (!*null && inside >= d->length)
+        fail(d, "skip link out of the arena", offset, theirs);
+    return *null ? PLAIN_NONE64 : inside;
+}
+
+/* Both of a chunk, compared; how many of them lead somewhere. */
+static unsigned same_skips(struct duel *d, uint32_t c, const char *what)
+{
+    unsigned links = 0;
+    for (uint32_t offset = 32; offset <= 40 && !d->over; offset += 8) {
+        bool null;
+        uint64_t mine = plain_get(arena + c + offset, 8);
+        uint64_t theirs = their_skip(d, c, offset, &null);
+        if (mine != theirs)
+            fail(d, what, mine, theirs);
+        links += !null;
+    }
+    return links;
+}
+
 static void same_chunk(struct duel *d, uint32_t c, uint32_t size)
 {
     uint64_t mine = plain_get(arena + c + 8, 8);
@@ -154,6 +183,9 @@ static void same_chunk(struct duel *d, uint32_t c, uint32_t size)
         if (plain_get(arena + c + offset, 8) != their_link(d, c, offset))
             fail(d, offset == 16 ? "forward link" : "back link",
                  plain_get(arena + c + offset, 8), their_link(d, c, offset));
+    if (size >= PLAIN_LARGE_MIN)
+        *(same_skips(d, c, "skip link") > 0 ? &d->report->skips
+                                            : &d->report->no_skips) += 2;
 }
 
 /* Every chunk cached here has the key here and there. */
@@ -181,9 +213,18 @@ static void same_heap(struct duel *d)
     same_keys(d);
 }
 
-/* ---- what a granted block holds in its second word ---- */
+/* ---- what a granted block holds where links were ---- */
 
 static struct plain_view before; /* the call */
+
+/* What was at c before the call, and is granted whole; else NULL. */
+static const struct plain_tile *granted_whole(uint32_t c, uint32_t size)
+{
+    for (uint32_t i = 0; i < before.tiles; i++)
+        if (before.tile[i].at == c && before.tile[i].size == size)
+            return &before.tile[i];
+    return NULL;
+}
 
 /*
  * The chunk was cached or binned before the call, and is granted whole: the
@@ -193,11 +234,9 @@ static struct plain_view before; /* the call */
 static void same_second_word(struct duel *d, uint32_t c, uint32_t size)
 {
     uint64_t mine = plain_get(arena + c + 24, 8);
-    const struct plain_tile *t = before.tile;
+    const struct plain_tile *t = granted_whole(c, size);
 
-    while (t < before.tile + before.tiles && t->at != c)
-        t++;
-    if (!d->keyed || t == before.tile + before.tiles || t->size != size
+    if (!d->keyed || t == NULL
         || (t->state != PLAIN_CACHED && t->state != PLAIN_BINNED))
         return;
     bool zero = their_field(d, c, 24) == 0;
@@ -205,6 +244,17 @@ static void same_second_word(struct duel *d, uint32_t c, uint32_t size)
     *(zero ? &d->report->zeros : &d->report->links) += 1;
     if (mine != theirs || (t->state == PLAIN_CACHED && !zero))
         fail(d, "second word of a granted block", mine, theirs);
+}
+
+/* Its own skip links stay in a chunk that leaves its bin. */
+static void same_old_skips(struct duel *d, uint32_t c, uint32_t size)
+{
+    const struct plain_tile *t = granted_whole(c, size);
+
+    if (t == NULL || t->state != PLAIN_BINNED || size < PLAIN_LARGE_MIN)
+        return;
+    same_skips(d, c, "old skip link of a granted block");
+    d->report->old_skips += 2;
 }
 
 /* ---- one call in both ---- */
@@ -261,6 +311,7 @@ static uint32_t both_grant(struct duel *d, uint64_t n)
         d->report->grants++;
         d->pair[d->pairs++] = (struct pair){ p, a.mem };
         same_second_word(d, a.mem - 16, a.usable + 8);
+        same_old_skips(d, a.mem - 16, a.usable + 8);
     }
     same_heap(d);
     holder_writes(d, p, a.mem, a.usable);
@@ -397,6 +448,34 @@ static void run_of_equals(struct duel *d)
         both_grant(d, n + random_below(&d->r, 200));
     for (uint32_t i = random_below(&d->r, count + 1); i > 0; i--)
         both_grant(d, n);
+}
+
+/*
+ * Groups of equals in one large bin, kept apart; sorted, some of them twice.
+ * Then the rings lose what grants take, and what a fence takes in that grows.
+ */
+static void groups_of_equals(struct duel *d)
+{
+    uint32_t n = 1080 + 64 * random_below(&d->r, 20), mem[20], fence[20];
+    uint32_t count = 4 + random_below(&d->r, 17);
+
+    for (uint32_t i = 0; i < count; i++) {
+        fence[i] = both_grant(d, random_below(&d->r, 25));
+        mem[i] = both_grant(d, n + 16 * random_below(&d->r, 4));
+    }
+    both_grant(d, 24);
+    for (uint32_t i = 0; i < count; i++) {
+        both_release_mem(d, mem[i]);
+        if (random_chance(&d->r, 30))
+            both_grant(d, d->length);
+    }
+    both_grant(d, d->length);
+    for (uint32_t i = random_below(&d->r, 2 * count); i > 0; i--)
+        if (random_chance(&d->r, 60))
+            both_resize_mem(d, fence[random_below(&d->r, count)],
+                            25 + random_below(&d->r, n));
+        else
+            both_grant(d, n + 16 * random_below(&d->r, 4));
 }
 
 /*
@@ -585,6 +664,8 @@ static void run_sequence(struct duel *d, uint32_t calls)
             block_between_fast_chunks(d);
         else if (drawn < 36 && d->length > 65536)
             release_much(d);
+        else if (drawn >= 36 && drawn < 42)
+            groups_of_equals(d);
         else if (d->pairs > 0 && random_chance(&d->r, resize_percent))
             resize_some(d);
         else if (d->pairs == 0 || random_chance(&d->r, grant_percent)) {
@@ -674,6 +755,8 @@ static void child(struct report *report, uint64_t seed, enum top top)
         release_much(d);
     else if (random_chance(&d->r, 25))
         remainder_that_grows(d);
+    else if (random_chance(&d->r, 30))
+        groups_of_equals(d);
     run_sequence(d, tops[top].calls);
     for (unsigned i = 0; i < SECOND_PLACE_COUNT; i++)
         report->reached[i] += second_trace.reached[i];
@@ -709,8 +792,9 @@ static bool tell(const char *name, const struct report *report)
     else
         printf("ok %s, glibc %s: %llu grants, %llu releases, %llu refusals, "
                "%llu resizes (%llu moved, %llu refused) agree, and so do %llu "
-               "keys, %llu words 0 and %llu old back links; %llu sequences "
-               "ended early by a top that grew\n",
+               "keys, %llu words 0 and %llu old back links, %llu skip links "
+               "that lead somewhere, %llu that do not and %llu old ones; %llu "
+               "sequences ended early by a top that grew\n",
                name, gnu_get_libc_version(), (unsigned long long)report->grants,
                (unsigned long long)report->releases,
                (unsigned long long)report->refusals,
@@ -721,6 +805,9 @@ static bool tell(const char *name, const struct report *report)
                (unsigned long long)report->keys,
                (unsigned long long)report->zeros,
                (unsigned long long)report->links,
+               (unsigned long long)report->skips,
+               (unsigned long long)report->no_skips,
+               (unsigned long long)report->old_skips,
                (unsigned long long)report->grown);
     return !report->failed;
 }

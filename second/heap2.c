@@ -1,9 +1,9 @@
 /*
- * Document 01's heap, with requests (i), (vi), (vii) and (viii) of document 02.
- * The order of the file: the heap's words, the lists, joining, the numbered
- * steps, resizing, the audit, the calls. A call checks shape, then its number,
- * then the whole heap, and only then writes; from there on every offset read
- * from the arena is known to be a chunk.
+ * Document 01's heap, with requests (i), (vi), (vii), (viii) and (x) of
+ * document 02. The order of the file: the heap's words, the lists, the rings,
+ * joining, the numbered steps, resizing, the audit, the calls. A call checks
+ * shape, then its number, then the whole heap, and only then writes; from there
+ * on every offset read from the arena is known to be a chunk.
  */
 #include "heap2.h"
 
@@ -18,7 +18,6 @@
 #define CACHE_DEPTH 7u
 #define FAST_MAX 128u
 #define CONSOLIDATE_MIN 65536u
-#define LARGE_MIN 1024u
 #define REQUEST_MAX 262144u
 
 enum refusal {
@@ -229,6 +228,75 @@ static void insert_first(struct heap *h, unsigned bin, uint32_t c)
 }
 
 /*
+ * ---- skip links ----
+ * In a large bin the first chunk of each group of equals is linked in a ring,
+ * forward to the next smaller; the other members, and large chunks in
+ * unsorted, have none. Only the ring's own upkeep reads it: no step does, so
+ * no answer depends on it.
+ */
+
+/* Has next follow c in the ring. */
+static void ring_link(struct heap *h, uint32_t c, uint32_t next)
+{
+    link_put(h, c, SKIP_FORWARD, next);
+    link_put(h, next, SKIP_BACK, c);
+}
+
+/* A chunk put or left in unsorted is in no ring. */
+static void clear_skips(struct heap *h, uint32_t c)
+{
+    if (size_of(h, c) < LARGE_MIN)
+        return;
+    link_put(h, c, SKIP_FORWARD, NONE);
+    link_put(h, c, SKIP_BACK, NONE);
+}
+
+static bool in_ring(const struct heap *h, uint32_t c)
+{
+    return size_of(h, c) >= LARGE_MIN && link_get(h, c, SKIP_FORWARD) != NONE;
+}
+
+/* Puts a new first before the next; NONE: it is the only one. */
+static void enter_ring(struct heap *h, uint32_t c, uint32_t next)
+{
+    uint32_t back = next == NONE ? c : link_get(h, next, SKIP_BACK);
+    ring_link(h, back, c);
+    ring_link(h, c, next == NONE ? c : next);
+}
+
+/*
+ * Of a chunk that leaves its bin, with the one behind it there: an equal takes
+ * a first's place, else the ring closes. What leaves keeps its own words.
+ */
+static void leave_ring(struct heap *h, uint32_t c, uint32_t behind)
+{
+    if (!in_ring(h, c))
+        return;
+    uint32_t next = link_get(h, c, SKIP_FORWARD);
+    uint32_t back = link_get(h, c, SKIP_BACK);
+
+    if (behind == NONE || in_ring(h, behind)) {
+        REACHED(RING_CLOSES);
+        ring_link(h, back, next);
+    } else if (next == c) {
+        REACHED(RING_EQUAL_ONLY);
+        ring_link(h, behind, behind);
+    } else {
+        REACHED(RING_EQUAL);
+        ring_link(h, back, behind);
+        ring_link(h, behind, next);
+    }
+}
+
+/* ---- out of the bins, and into them ---- */
+
+static void insert_unsorted(struct heap *h, uint32_t c)
+{
+    insert_first(h, UNSORTED, c);
+    clear_skips(h, c);
+}
+
+/*
  * An end of a list is told by the record alone: a chunk without a neighbour
  * may be in unsorted or in its size's bin, and is in one of them only.
  */
@@ -243,6 +311,7 @@ static void unlink_chunk(struct heap *h, uint32_t c)
         bin = bin_of(size_of(h, c));
     set_forward(h, bin, back, forward);
     set_back(h, bin, forward, back);
+    leave_ring(h, c, forward);
 }
 
 static uint32_t take_last(struct heap *h, unsigned bin)
@@ -253,10 +322,15 @@ static uint32_t take_last(struct heap *h, unsigned bin)
     uint32_t back = link_get(h, c, BACK);
     set_forward(h, bin, back, NONE);
     put(h, BIN_LAST + 2 * bin, back);
+    leave_ring(h, c, NONE);
     return c;
 }
 
-/* Sizes fall from first to last; an equal goes right behind the first equal. */
+/*
+ * Sizes fall from first to last; an equal goes right behind the first equal,
+ * and is in no ring, as in unsorted. The smallest of all comes before the
+ * largest in the ring.
+ */
 static void insert_large(struct heap *h, unsigned bin, uint32_t c,
                          uint32_t size)
 {
@@ -271,10 +345,13 @@ static void insert_large(struct heap *h, unsigned bin, uint32_t c,
         }
         if (size_of(h, after) == size) {
             REACHED(STEP_5_SECOND);
-            before = after;
-            after = link_get(h, after, FORWARD);
+            insert(h, bin, after, c, link_get(h, after, FORWARD));
+            return;
         }
     }
+    REACHED(after != NONE    ? before == NONE ? RING_LARGEST : RING_BETWEEN
+            : before == NONE ? RING_ONLY : RING_SMALLEST);
+    enter_ring(h, c, after == NONE ? bin_first(h, bin) : after);
     insert(h, bin, before, c, after);
 }
 
@@ -337,7 +414,7 @@ static uint32_t join(struct heap *h, uint32_t c)
     size_put(h, c, size);
     clear_p(h, c + size);
     field_put(h->arena, c + size, PREVIOUS_SIZE, size);
-    insert_first(h, UNSORTED, c);
+    insert_unsorted(h, c);
     return size;
 }
 
@@ -455,6 +532,7 @@ static uint32_t split_last_remainder(struct heap *h, uint32_t c, uint32_t size,
     put(h, BIN_FIRST + 2 * UNSORTED, rest);
     put(h, BIN_LAST + 2 * UNSORTED, rest);
     put(h, LAST_REMAINDER, rest);
+    clear_skips(h, rest);
     return c;
 }
 
@@ -499,7 +577,7 @@ static uint32_t step8(struct heap *h, uint32_t b, uint32_t c)
     }
     REACHED(STEP_8_SPLIT);
     uint32_t rest = split(h, c, size, b);
-    insert_first(h, UNSORTED, rest);
+    insert_unsorted(h, rest);
     if (b < LARGE_MIN) /* so it was step 7 */
         put(h, LAST_REMAINDER, rest);
     return c;
@@ -791,18 +869,66 @@ static bool audit_bin(const struct heap *h, struct marks *m, unsigned bin)
     return widen(bin_last(h, bin)) == back;
 }
 
+/* That both skip links of c say none. */
+static bool no_skips(const struct heap *h, uint32_t c)
+{
+    return field_get(h->arena, c, SKIP_FORWARD) == LINK_NONE
+        && field_get(h->arena, c, SKIP_BACK) == LINK_NONE;
+}
+
+/* That c and next name each other. */
+static bool ring_linked(const struct heap *h, uint32_t c, uint32_t next)
+{
+    return field_get(h->arena, c, SKIP_FORWARD) == next
+        && field_get(h->arena, next, SKIP_BACK) == c;
+}
+
+/* Of a list that is otherwise good: told by its order and its sizes alone. */
+static bool audit_ring(const struct heap *h, unsigned bin)
+{
+    uint32_t first = bin_first(h, bin), of_group = first, c = first;
+    if (first == NONE)
+        return true;
+    while ((c = link_get(h, c, FORWARD)) != NONE) {
+        bool equal = size_of(h, c) == size_of(h, of_group);
+        if (equal ? !no_skips(h, c) : !ring_linked(h, of_group, c))
+            return false;
+        if (!equal)
+            of_group = c;
+    }
+    return ring_linked(h, of_group, first);
+}
+
+/* The same of unsorted, where nothing is in a ring. */
+static bool audit_unsorted_skips(const struct heap *h)
+{
+    uint32_t c = bin_first(h, UNSORTED);
+    for (; c != NONE; c = link_get(h, c, FORWARD))
+        if (size_of(h, c) >= LARGE_MIN && !no_skips(h, c))
+            return false;
+    return true;
+}
+
+static bool audit_skips(const struct heap *h, unsigned bin)
+{
+    if (bin == UNSORTED)
+        return audit_unsorted_skips(h);
+    return bin < FIRST_LARGE_BIN || audit_ring(h, bin);
+}
+
 static struct second_fault audit_lists(const struct heap *h, struct marks *m,
-                                       bool keyed)
+                                       uint32_t version)
 {
     uint64_t key = key_get(h->record);
     for (unsigned k = 0; k < CACHE_LISTS; k++)
-        if (!audit_cache(h, m, k, keyed ? &key : NULL))
+        if (!audit_cache(h, m, k, version >= WITH_KEYS ? &key : NULL))
             return fault(SECOND_CACHE, k);
     for (unsigned k = 0; k < FAST_LISTS; k++)
         if (!audit_fast(h, m, k))
             return fault(SECOND_FAST, k);
     for (unsigned bin = 1; bin <= BINS; bin++)
-        if (!audit_bin(h, m, bin))
+        if (!audit_bin(h, m, bin)
+            || (version >= WITH_SKIPS && !audit_skips(h, bin)))
             return fault(SECOND_BIN, bin);
     return fault(SECOND_SOUND, 0);
 }
@@ -828,15 +954,15 @@ static struct second_fault audit_flags(const struct heap *h,
     return fault(SECOND_SOUND, 0);
 }
 
-/* keyed: a cached chunk without the key makes its list bad. */
+/* By the rules of that version. */
 static struct second_fault audit(const struct heap *h, struct marks *m,
-                                 bool keyed)
+                                 uint32_t version)
 {
     if (get(h, ARENA_LENGTH) != h->length)
         return fault(SECOND_RECORD, 0);
     struct second_fault f = audit_tiles(h, m);
     if (f.kind == SECOND_SOUND)
-        f = audit_lists(h, m, keyed);
+        f = audit_lists(h, m, version);
     if (f.kind == SECOND_SOUND)
         f = audit_flags(h, m);
     return f;
@@ -844,7 +970,7 @@ static struct second_fault audit(const struct heap *h, struct marks *m,
 
 static bool sound(const struct heap *h, struct marks *m)
 {
-    return audit(h, m, true).kind == SECOND_SOUND;
+    return audit(h, m, NEWEST).kind == SECOND_SOUND;
 }
 
 /* ---- the calls ---- */
@@ -1016,9 +1142,9 @@ struct second_answer second_joining(uint8_t *arena, size_t arena_len,
     return answer(GRANTED);
 }
 
-static struct second_fault audit_lent(const uint8_t *arena, size_t arena_len,
-                                      const uint8_t *record, size_t record_len,
-                                      bool keyed)
+struct second_fault second_audit_by(uint32_t version, const uint8_t *arena,
+                                    size_t arena_len, const uint8_t *record,
+                                    size_t record_len)
 {
     struct heap h;
     struct marks m;
@@ -1026,19 +1152,11 @@ static struct second_fault audit_lent(const uint8_t *arena, size_t arena_len,
     if (!shaped(&h, (uint8_t *)(uintptr_t)arena, arena_len,
                 (uint8_t *)(uintptr_t)record, record_len))
         return (struct second_fault){ BAD_SHAPE, 0, 0 };
-    return audit(&h, &m, keyed);
+    return audit(&h, &m, version);
 }
 
 struct second_fault second_audit(const uint8_t *arena, size_t arena_len,
                                  const uint8_t *record, size_t record_len)
 {
-    return audit_lent(arena, arena_len, record, record_len, true);
-}
-
-struct second_fault second_audit_without_keys(const uint8_t *arena,
-                                              size_t arena_len,
-                                              const uint8_t *record,
-                                              size_t record_len)
-{
-    return audit_lent(arena, arena_len, record, record_len, false);
+    return second_audit_by(NEWEST, arena, arena_len, record, record_len);
 }

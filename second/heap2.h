@@ -1,7 +1,7 @@
 /*
  * The second program: document 01's heap in plain C, with requests (i), (vi),
- * (vii) and (viii) of document 02, written from the documents alone, so that
- * another implementation can be held against it.
+ * (vii), (viii) and (x) of document 02, written from the documents alone, so
+ * that another implementation can be held against it.
  *
  * Each call works on an arena (lent bytes) and its control record (1,580
  * bytes: 393 little-endian words and the key). The two buffers must not
@@ -59,10 +59,12 @@ struct second_answer second_joining(uint8_t *arena, size_t arena_len,
                                     uint8_t *record, size_t record_len);
 struct second_fault second_audit(const uint8_t *arena, size_t arena_len,
                                  const uint8_t *record, size_t record_len);
-/* The same by the rules of images of version 1: no chunk is asked its key. */
-struct second_fault second_audit_without_keys(const uint8_t *arena,
-                                              size_t arena_len,
-                                              const uint8_t *record,
-                                              size_t record_len);
+/*
+ * The same by the rules of images of that version: 1 asks no chunk its key or
+ * its skip links, 2 the key alone, and 3, today's, both.
+ */
+struct second_fault second_audit_by(uint32_t version, const uint8_t *arena,
+                                    size_t arena_len, const uint8_t *record,
+                                    size_t record_len);
 
 #endif

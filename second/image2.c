@@ -54,16 +54,78 @@ static enum refusal refusal_of(const uint8_t *file, size_t file_len,
     return DONE;
 }
 
-/* Of a sound heap, so that every link is one or none. */
+/*
+ * ---- what an older heap lacks ----
+ * Of a sound heap, so that every link is one or none; cut to 32 bits it is.
+ */
+
+static uint32_t behind(const uint8_t *arena, uint32_t c)
+{
+    return (uint32_t)field_get(arena, c, FORWARD);
+}
+
+static uint64_t size_at(const uint8_t *arena, uint32_t c)
+{
+    return field_get(arena, c, SIZE_WORD) & ~(uint64_t)15;
+}
+
 static void write_keys(uint8_t *arena, const uint8_t *record)
 {
     for (unsigned k = 0; k < CACHE_LISTS; k++) {
-        uint32_t head = word_get(record, CACHE_HEAD + k);
-        uint64_t c = head == NONE ? LINK_NONE : head;
-        for (; c != LINK_NONE; c = field_get(arena, (uint32_t)c, FORWARD))
-            field_put(arena, (uint32_t)c, CACHE_KEY, key_get(record));
+        uint32_t c = word_get(record, CACHE_HEAD + k);
+        for (; c != NONE; c = behind(arena, c))
+            field_put(arena, c, CACHE_KEY, key_get(record));
     }
 }
+
+/* All ones in every chunk that holds skip links. */
+static void write_no_skips(uint8_t *arena, uint32_t c)
+{
+    for (; c != NONE; c = behind(arena, c)) {
+        if (size_at(arena, c) < LARGE_MIN)
+            continue;
+        field_put(arena, c, SKIP_FORWARD, LINK_NONE);
+        field_put(arena, c, SKIP_BACK, LINK_NONE);
+    }
+}
+
+static void write_skip(uint8_t *arena, uint32_t from, uint32_t to)
+{
+    field_put(arena, from, SKIP_FORWARD, to);
+    field_put(arena, to, SKIP_BACK, from);
+}
+
+/* A chunk of another size than the one before it is its group's first. */
+static void write_ring(uint8_t *arena, uint32_t first)
+{
+    uint32_t of_group = first;
+
+    write_no_skips(arena, first);
+    for (uint32_t c = first; c != NONE; c = behind(arena, c))
+        if (size_at(arena, c) != size_at(arena, of_group)) {
+            write_skip(arena, of_group, c);
+            of_group = c;
+        }
+    if (first != NONE)
+        write_skip(arena, of_group, first);
+}
+
+static void write_skips(uint8_t *arena, const uint8_t *record)
+{
+    write_no_skips(arena, word_get(record, BIN_FIRST + 2 * UNSORTED));
+    for (unsigned bin = FIRST_LARGE_BIN; bin <= BINS; bin++)
+        write_ring(arena, word_get(record, BIN_FIRST + 2 * bin));
+}
+
+static void complete(uint8_t *arena, const uint8_t *record, uint32_t version)
+{
+    if (version < WITH_KEYS)
+        write_keys(arena, record);
+    if (version < WITH_SKIPS)
+        write_skips(arena, record);
+}
+
+/* ---- reading ---- */
 
 /* The heap as it stands in the file, with the key 0 where that has none. */
 static void copy_heap(const uint8_t *file, uint8_t *arena, size_t arena_len,
@@ -71,7 +133,7 @@ static void copy_heap(const uint8_t *file, uint8_t *arena, size_t arena_len,
 {
     uint32_t version = version_get(file);
     memcpy(record, file + IMAGE_RECORD, record_bytes(version));
-    if (version == WITHOUT_KEYS)
+    if (version < WITH_KEYS)
         key_put(record, 0);
     memcpy(arena, file + arena_at(version), arena_len);
 }
@@ -85,11 +147,10 @@ struct second_fault second_read_image(const uint8_t *file, size_t file_len,
         return (struct second_fault){ no, 0, 0 };
 
     copy_heap(file, arena, arena_len, record);
-    if (version_get(file) != WITHOUT_KEYS)
-        return second_audit(arena, arena_len, record, record_len);
+    uint32_t version = version_get(file);
     struct second_fault f =
-        second_audit_without_keys(arena, arena_len, record, record_len);
+        second_audit_by(version, arena, arena_len, record, record_len);
     if (f.kind == SECOND_SOUND)
-        write_keys(arena, record);
+        complete(arena, record, version);
     return f;
 }

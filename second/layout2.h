@@ -10,6 +10,10 @@
  *           | forward link, or data          |
  *   c+24 -> +--------------------------------+
  *           | back link, key, or data        |  the key if it is cached
+ *   c+32 -> +--------------------------------+
+ *           | forward skip link, or data     |  the two skip links if it is
+ *   c+40 -> +--------------------------------+  of 1,024 or more, and in
+ *           | back skip link, or data        |  unsorted or its bin
  *           .                                .
  * c+size -> +--------------------------------+
  *           | this chunk's size, or data     |  usable bytes end 8 further on
@@ -37,13 +41,17 @@
 #define FAST_LISTS 10
 #define BINS 126
 #define UNSORTED 1
+#define FIRST_LARGE_BIN 64
+#define LARGE_MIN 1024u /* the least size in it */
 
 enum field {
     PREVIOUS_SIZE = 0,
     SIZE_WORD = 8,
     FORWARD = 16,
     BACK = 24,
-    CACHE_KEY = 24 /* no stack has back links */
+    CACHE_KEY = 24, /* no stack has back links */
+    SKIP_FORWARD = 32,
+    SKIP_BACK = 40
 };
 
 enum word {
@@ -77,8 +85,13 @@ enum part {
     IMAGE_RECORD = 9
 };
 
-/* The two versions there are; an image is written in the newest. */
-enum version { WITHOUT_KEYS = 1, WITH_KEYS = 2, NEWEST = WITH_KEYS };
+/*
+ * The versions there are. Each has its own rules of a sound heap: only from
+ * WITH_KEYS on is a chunk asked its key, only from WITH_SKIPS on its skip
+ * links. An image is written in the newest, and the calls go by that.
+ */
+enum version { WITHOUT_KEYS = 1, WITH_KEYS = 2, WITH_SKIPS = 3,
+               NEWEST = WITH_SKIPS };
 
 #define IMAGE_MAX (IMAGE_RECORD + RECORD_BYTES + ARENA_MAX)
 
@@ -148,13 +161,13 @@ static inline void version_put(uint8_t *file, uint32_t version)
 
 static inline bool version_known(uint32_t version)
 {
-    return version == WITHOUT_KEYS || version == WITH_KEYS;
+    return version >= WITHOUT_KEYS && version <= NEWEST;
 }
 
 /* Of a known version: the record's bytes in the file, and where they end. */
 static inline size_t record_bytes(uint32_t version)
 {
-    return version == WITHOUT_KEYS ? KEYLESS_RECORD_BYTES : RECORD_BYTES;
+    return version < WITH_KEYS ? KEYLESS_RECORD_BYTES : RECORD_BYTES;
 }
 
 static inline size_t arena_at(uint32_t version)

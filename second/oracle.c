@@ -1,5 +1,7 @@
 #include "oracle.h"
 
+#include <stdbool.h>
+
 #include "plain.h"
 
 struct set {
@@ -11,7 +13,7 @@ struct subject {
     const uint8_t *arena;
     const uint8_t *record;
     uint64_t length;
-    bool keyed;
+    unsigned version; /* of the rules */
 };
 
 /* A list of the record, as the document speaks of it. */
@@ -25,6 +27,7 @@ static struct set chunks; /* every tile's offset, rising; the last is the top */
 static struct set met;    /* members of all lists before this one */
 static struct set binned; /* members of all bins */
 static struct set members; /* of the list in hand, in its order */
+static struct set firsts;  /* of its groups of equals, in its order */
 
 static bool holds(const struct set *set, uint64_t c)
 {
@@ -126,7 +129,7 @@ static bool bin_good(const struct subject *s, unsigned number)
 
 static bool key_wrong(const struct subject *s, uint64_t c)
 {
-    return s->keyed && eight(s, c + 24) != plain_key(s->record);
+    return s->version >= 2 && eight(s, c + 24) != plain_key(s->record);
 }
 
 static bool keys_good(const struct subject *s)
@@ -134,6 +137,48 @@ static bool keys_good(const struct subject *s)
     for (size_t i = 0; i < members.count; i++)
         if (key_wrong(s, members.member[i]))
             return false;
+    return true;
+}
+
+static void collect_firsts(const struct subject *s)
+{
+    firsts.count = 0;
+    for (size_t i = 0; i < members.count; i++) {
+        bool new_size = true;
+        for (size_t j = 0; j < i; j++)
+            if (size_at(s, members.member[j]) == size_at(s, members.member[i]))
+                new_size = false;
+        if (new_size)
+            add(&firsts, members.member[i]);
+    }
+}
+
+static bool skips_are(const struct subject *s, uint64_t c, uint64_t forward,
+                      uint64_t back)
+{
+    return eight(s, c + 32) == forward && eight(s, c + 40) == back;
+}
+
+/* Of a list that is good but for what stands in its skip links. */
+static bool skips_good(const struct subject *s, unsigned number)
+{
+    if (s->version < 3 || (number != 1 && number < 64))
+        return true;
+    firsts.count = 0;
+    if (number != 1)
+        collect_firsts(s);
+    for (size_t i = 0; i < firsts.count; i++) {
+        uint64_t smaller = firsts.member[i + 1 == firsts.count ? 0 : i + 1];
+        uint64_t larger = firsts.member[i == 0 ? firsts.count - 1 : i - 1];
+        if (!skips_are(s, firsts.member[i], smaller, larger))
+            return false;
+    }
+    for (size_t i = 0; i < members.count; i++) {
+        uint64_t c = members.member[i];
+        if (size_at(s, c) >= 1024 && !holds(&firsts, c)
+            && !skips_are(s, c, PLAIN_NONE64, PLAIN_NONE64))
+            return false;
+    }
     return true;
 }
 
@@ -145,7 +190,8 @@ static bool list_good(const struct subject *s, const struct list *l)
         return members.count <= 7 && keys_good(s)
             && plain_word(s->record, plain_cache_count(l->number))
                    == members.count;
-    return l->kind == SECOND_FAST || bin_good(s, l->number);
+    return l->kind == SECOND_FAST
+        || (bin_good(s, l->number) && skips_good(s, l->number));
 }
 
 static struct list nth_list(const struct subject *s, unsigned i)
@@ -175,9 +221,9 @@ static bool flag_good(const struct subject *s, size_t i)
 
 struct second_fault oracle_audit(const uint8_t *arena, size_t length,
                                  const uint8_t *record, size_t record_len,
-                                 bool keyed)
+                                 unsigned version)
 {
-    struct subject s = { arena, record, length, keyed };
+    struct subject s = { arena, record, length, version };
 
     if (length < 32 || length > PLAIN_ARENA_MAX || length % 16 != 0
         || record_len != PLAIN_RECORD_BYTES)
@@ -245,9 +291,10 @@ static size_t good_members(const struct subject *s, const struct list *l)
 }
 
 size_t oracle_reached(const uint8_t *arena, size_t length,
-                      const uint8_t *record, bool keyed, unsigned *list)
+                      const uint8_t *record, unsigned version,
+                      unsigned *list)
 {
-    struct subject s = { arena, record, length, keyed };
+    struct subject s = { arena, record, length, version };
 
     collect_tiles(&s);
     for (size_t i = 0; i < chunks.count; i++)

@@ -2,12 +2,12 @@
  * The audit once more, slow and by sets: each list is read out as a plain
  * sequence first, then every condition of document 01 is asked of it in its
  * own loop; and so what the lists reach, for heapimage. Shares no line with
- * heap2.c and show2.c. Keyed says whether cached chunks are asked the key.
+ * heap2.c and show2.c. The version is that of the rules: of cached chunks the
+ * key is asked from 2 on, of large ones in bins the skip links from 3 on.
  */
 #ifndef ORACLE_H
 #define ORACLE_H
 
-#include <stdbool.h>
 #include <stddef.h>
 #include <stdint.h>
 
@@ -15,7 +15,7 @@
 
 struct second_fault oracle_audit(const uint8_t *arena, size_t length,
                                  const uint8_t *record, size_t record_len,
-                                 bool keyed);
+                                 unsigned version);
 
 /*
  * In which list each tile of a heap is whose record and tiles are sound, by
@@ -25,6 +25,7 @@ struct second_fault oracle_audit(const uint8_t *arena, size_t length,
 #define ORACLE_LIVE 200u
 #define ORACLE_TOP 201u
 size_t oracle_reached(const uint8_t *arena, size_t length,
-                      const uint8_t *record, bool keyed, unsigned *list);
+                      const uint8_t *record, unsigned version,
+                      unsigned *list);
 
 #endif

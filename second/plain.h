@@ -55,6 +55,10 @@ static inline unsigned plain_fast_head(unsigned k) { return 131 + k; }
 static inline unsigned plain_bin_first(unsigned i) { return 141 + 2 * (i - 1); }
 static inline unsigned plain_bin_last(unsigned i) { return 142 + 2 * (i - 1); }
 
+/* The bins from this one on are large, and have rings. */
+#define PLAIN_LARGE_BIN 64u
+#define PLAIN_LARGE_MIN 1024u
+
 /* The bin of a size, in the form of glibc's own macros for 64 bits. */
 static inline unsigned plain_bin(uint64_t s)
 {
@@ -92,11 +96,19 @@ void plain_read(struct plain_view *view, const uint8_t *arena, uint32_t length,
                 const uint8_t *record);
 
 /*
- * What a heap from an image of version 1 becomes when it is read: it has the
- * key 0, and, if it is sound by the rules of that version, 0 in each cached
- * chunk.
+ * Writes the skip links of every chunk that holds some: those of bins 64 to
+ * 126, and those of 1,024 bytes or more in unsorted. The lists must be sound
+ * but for them.
+ */
+void plain_put_skips(uint8_t *arena, const uint8_t *record);
+
+/*
+ * What a heap from an image of that version becomes when it is read. Of version
+ * 1 it has the key 0, and, if it is sound by the rules of that version, 0 in
+ * each cached chunk; of version 1 and 2 it has, if it is sound so, its skip
+ * links; of version 3 it stays.
  */
 void plain_from_old(uint8_t *arena, uint32_t length, uint8_t *record,
-                    bool sound);
+                    unsigned version, bool sound);
 
 #endif

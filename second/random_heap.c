@@ -248,6 +248,69 @@ static void write_ends(const struct piece *piece, uint32_t count,
     }
 }
 
+/* ---- wrong skip links ---- */
+
+/* A chunk that holds skip links, and the bin that it is in. */
+struct skipped {
+    uint32_t at;
+    unsigned bin;
+};
+
+static struct skipped skipped[PLAIN_TILES_MAX];
+
+/* Reads them all, and answers how many there are. */
+static uint32_t read_skipped(const uint8_t *arena, const uint8_t *record)
+{
+    uint32_t count = 0;
+    for (unsigned bin = 1; bin <= 126; bin += bin == 1 ? 63 : 1) {
+        uint32_t first = plain_word(record, plain_bin_first(bin));
+        uint64_t c = first == PLAIN_NONE32 ? PLAIN_NONE64 : first;
+        for (; c != PLAIN_NONE64; c = plain_get(arena + c + 16, 8))
+            if (plain_get(arena + c + 8, 8) >= PLAIN_LARGE_MIN)
+                skipped[count++] = (struct skipped){ (uint32_t)c, bin };
+    }
+    return count;
+}
+
+/* A word that may be taken for the skip link at c + field, but is another. */
+static uint64_t other_skip(struct random *r, const uint8_t *arena, uint32_t c,
+                           uint32_t field, uint32_t count)
+{
+    uint64_t right = plain_get(arena + c + field, 8), drawn = PLAIN_NONE64;
+    switch (random_below(r, 8)) {
+    case 0: drawn = right ^ ((uint64_t)1 << random_below(r, 64)); break;
+    case 1: drawn = right ^ (PLAIN_NONE64 << 32); break; /* right if cut */
+    case 2: drawn = PLAIN_NONE32; break;
+    case 3: drawn = c; break;
+    case 4: drawn = plain_get(arena + c + field - 16, 8); break;
+    case 5: drawn = plain_get(arena + c + (field ^ 8), 8); break;
+    case 6: break;
+    default: drawn = skipped[random_below(r, count)].at;
+    }
+    return drawn != right ? drawn : right ^ 16;
+}
+
+static void put_other_skip(struct random *r, uint8_t *arena, uint32_t c,
+                           uint32_t count)
+{
+    uint32_t field = random_chance(r, 50) ? 32 : 40;
+    plain_put(arena + c + field, 8, other_skip(r, arena, c, field, count));
+}
+
+static void put_skips(struct random *r, const struct plan *plan,
+                      uint8_t *arena, const uint8_t *record)
+{
+    plain_put_skips(arena, record);
+    if (plan->flaw != FLAW_SKIP)
+        return;
+    uint32_t count = read_skipped(arena, record);
+    for (uint32_t i = 0; i < count; i++)
+        if (random_chance(r, 20))
+            put_other_skip(r, arena, skipped[i].at, count);
+}
+
+/* ---- whole heaps ---- */
+
 static uint32_t random_remainder(struct random *r, const struct plan *plan,
                                  const uint8_t *record)
 {
@@ -290,6 +353,7 @@ void flawed_heap(struct random *r, enum flaw flaw, uint8_t *arena,
         write_ends(&plan.piece[i], next - i, record);
     }
     plain_put_word(record, 2, random_remainder(r, &plan, record));
+    put_skips(r, &plan, arena, record);
 }
 
 void random_heap(struct random *r, uint8_t *arena, uint32_t length,
@@ -446,7 +510,7 @@ void damage_field(struct random *r, uint8_t *arena, uint32_t length,
 
     if (random_chance(r, 50))
         near = -near;
-    switch (random_below(r, 8)) {
+    switch (random_below(r, 9)) {
     case 0: case 1:
         plain_put(arena + tile + 8, 8,
                   other_size_word(r, plain_get(arena + tile + 8, 8)));
@@ -464,6 +528,9 @@ void damage_field(struct random *r, uint8_t *arena, uint32_t length,
         break;
     case 5:
         plain_put_word(record, word, plain_word(record, word) + near);
+        break;
+    case 6:
+        damage_skip(r, arena, record);
         break;
     default:
         plain_put_word(record, word, (uint32_t)value);
@@ -500,6 +567,16 @@ unsigned damage_key(struct random *r, uint8_t *arena, const uint8_t *record)
     uint32_t at = nth_cached(arena, record, random_below(r, cached), &list);
     plain_put(arena + at + 24, 8, other_key(r, plain_key(record)));
     return list;
+}
+
+unsigned damage_skip(struct random *r, uint8_t *arena, const uint8_t *record)
+{
+    uint32_t count = read_skipped(arena, record);
+    if (count == 0)
+        return 0;
+    const struct skipped *chosen = &skipped[random_below(r, count)];
+    put_other_skip(r, arena, chosen->at, count);
+    return chosen->bin;
 }
 
 /* A tile of the same size, if a few draws find one, else any. */

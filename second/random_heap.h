@@ -46,6 +46,7 @@ enum flaw {
     FLAW_EIGHT,      /* cache lists of more than 7 */
     FLAW_HOME,       /* chunks in lists that own other sizes */
     FLAW_KEY,        /* cached chunks with words that are not the key */
+    FLAW_SKIP,       /* large free chunks with wrong skip links */
     FLAW_COUNT
 };
 
@@ -54,9 +55,9 @@ void flawed_heap(struct random *r, enum flaw flaw, uint8_t *arena,
                  uint32_t length, uint8_t *record);
 
 /*
- * Changes one field of a sound heap: a size word, a flag, a link, a key, a
- * head, a count, a last, the length, the top or a previous size. The heap may
- * by chance stay sound.
+ * Changes one field of a sound heap: a size word, a flag, a link, a key, a skip
+ * link, a head, a count, a last, the length, the top or a previous size. The
+ * heap may by chance stay sound.
  */
 void damage_field(struct random *r, uint8_t *arena, uint32_t length,
                   uint8_t *record);
@@ -66,6 +67,13 @@ void damage_field(struct random *r, uint8_t *arena, uint32_t length,
  * Answers its list; 64, and nothing is written, if no chunk is cached.
  */
 unsigned damage_key(struct random *r, uint8_t *arena, const uint8_t *record);
+
+/*
+ * Puts another word in one of the two skip links of one chunk that holds them,
+ * be it a first, another of its group or in unsorted. Answers its bin; 0, and
+ * nothing is written, if there is no such chunk.
+ */
+unsigned damage_skip(struct random *r, uint8_t *arena, const uint8_t *record);
 
 /*
  * Has links and starts of lists lead to other chunks, mostly to ones of a size

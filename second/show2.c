@@ -2,24 +2,24 @@
  * The lists are walked here once more, apart from the audit of heap2.c: that
  * stops at the first bad list, this goes through all 200 and stops in each at
  * the first bad chunk, as request (ix) of document 02 does. A count or a last
- * that is wrong condemns no chunk, and neither does a flag.
+ * that is wrong condemns no chunk, and neither does a flag or a skip link.
  */
 #include "show2.h"
 
 #include <inttypes.h>
+#include <stdbool.h>
 
 #include "image2.h"
 #include "layout2.h"
 
 #define CACHE_DEPTH 7
 #define FAST_OWNING 7 /* lists 7 to 9 own no size */
-#define FIRST_LARGE_BIN 64
 
 struct heap {
     const uint8_t *arena;
     const uint8_t *record;
     uint32_t length;
-    bool keyed;
+    uint32_t version;
     struct second_tile *tile;
     uint32_t tiles;
     uint16_t tile_at[ARENA_MAX / 16]; /* 1 + its index, or 0 for no chunk */
@@ -106,7 +106,8 @@ static bool linked_back(const struct heap *h, const struct second_tile *t,
 
 static bool has_key(const struct heap *h, const struct second_tile *t)
 {
-    return field_get(h->arena, t->offset, CACHE_KEY) == key_get(h->record);
+    return h->version < WITH_KEYS
+        || field_get(h->arena, t->offset, CACHE_KEY) == key_get(h->record);
 }
 
 /* What may stand in the list behind that many, of which before is the last. */
@@ -116,7 +117,7 @@ static bool good(const struct heap *h, const struct list *l, uint32_t count,
     if (t->state != SECOND_IS_LIVE || !owns(l, t->size))
         return false;
     if (l->state == SECOND_IS_CACHED)
-        return count < CACHE_DEPTH && (!h->keyed || has_key(h, t));
+        return count < CACHE_DEPTH && has_key(h, t);
     if (l->state == SECOND_IS_FAST)
         return true;
     return linked_back(h, t, before)
@@ -141,7 +142,7 @@ static void walk(struct heap *h, const struct list *l)
 }
 
 uint32_t second_tiles(const uint8_t *arena, uint32_t length,
-                      const uint8_t *record, bool keyed,
+                      const uint8_t *record, uint32_t version,
                       struct second_tile *tile)
 {
     static struct heap h;
@@ -149,7 +150,7 @@ uint32_t second_tiles(const uint8_t *arena, uint32_t length,
     h.arena = arena;
     h.record = record;
     h.length = length;
-    h.keyed = keyed;
+    h.version = version;
     h.tile = tile;
     lay_out(&h);
     for (unsigned i = 0; i < CACHE_LISTS + FAST_LISTS + BINS; i++) {
@@ -210,9 +211,8 @@ void second_show_image(FILE *out, const uint8_t *file, size_t file_len)
     print_fault(out, f);
     if (f.kind == SECOND_RECORD || f.kind == SECOND_TILE)
         return;
-    bool keyed = version_get(file) != WITHOUT_KEYS;
-    uint32_t tiles =
-        second_tiles(arena, (uint32_t)length, record, keyed, tile);
+    uint32_t tiles = second_tiles(arena, (uint32_t)length, record,
+                                  version_get(file), tile);
     for (uint32_t i = 0; i < tiles; i++)
         print_tile(out, &tile[i]);
 }

@@ -5,7 +5,6 @@
 #ifndef SHOW2_H
 #define SHOW2_H
 
-#include <stdbool.h>
 #include <stddef.h>
 #include <stdint.h>
 #include <stdio.h>
@@ -32,11 +31,11 @@ struct second_tile {
  * Tells the tiles of a heap whose record and tiles are sound, by rising
  * offset, and answers how many there are. Each list is walked up to its first
  * bad chunk; what is reached so is in that list, all else but the top is live.
- * With keyed a cached chunk without the record's key is bad: so it is in
- * images of version 2.
+ * A cached chunk without the record's key is bad, but not by the rules of
+ * images of version 1; no chunk is bad for its skip links.
  */
 uint32_t second_tiles(const uint8_t *arena, uint32_t length,
-                      const uint8_t *record, bool keyed,
+                      const uint8_t *record, uint32_t version,
                       struct second_tile *tile);
 
 /* Prints what heapimage prints of a file of that many bytes. */

@@ -1,7 +1,7 @@
 /*
  * The audit against the slow one of oracle.c, place included, by the rules of
- * today and by those of images of version 1; and what the calls do on heaps
- * that are not sound: answer 3 and write nothing.
+ * today and by those of images of versions 1 and 2; and what the calls do on
+ * heaps that are not sound: answer 3 and write nothing.
  */
 #include <string.h>
 
@@ -29,25 +29,28 @@ static bool same_fault(struct second_fault a, struct second_fault b)
     return a.no == b.no && a.kind == b.kind && a.number == b.number;
 }
 
-static struct second_fault audit_by(struct lent *l, bool keyed, uint64_t seed)
+static struct second_fault audit_by(struct lent *l, unsigned version,
+                                    uint64_t seed)
 {
-    struct second_fault mine =
-        keyed ? lent_audit(l) : lent_audit_without_keys(l);
+    struct second_fault mine = lent_audit_by(l, version);
     struct second_fault slow =
-        oracle_audit(l->arena, l->length, l->record, l->record_len, keyed);
+        oracle_audit(l->arena, l->length, l->record, l->record_len, version);
     CHECK(same_fault(mine, slow),
-          "seed %llu: audit %s keys says %u %u %u, the slow one %u %u %u",
-          (unsigned long long)seed, keyed ? "with" : "without", mine.no,
-          mine.kind, mine.number, slow.no, slow.kind, slow.number);
+          "seed %llu: audit of version %u says %u %u %u, the slow one %u %u %u",
+          (unsigned long long)seed, version, mine.no, mine.kind, mine.number,
+          slow.no, slow.kind, slow.number);
     return mine;
 }
 
-/* Without keys the slow one is asked of every fourth heap only. */
+/* By older rules the slow one is asked of every fourth heap only. */
 static struct second_fault audit_checked(struct lent *l, uint64_t seed)
 {
-    struct second_fault f = audit_by(l, true, seed);
+    struct second_fault f = audit_by(l, 3, seed);
+    CHECK(same_fault(f, lent_audit(l)),
+          "seed %llu: the audit is not that of version 3",
+          (unsigned long long)seed);
     if (seed % 4 == 0)
-        audit_by(l, false, seed);
+        audit_by(l, 1 + seed / 4 % 2, seed);
     return f;
 }
 
@@ -124,11 +127,11 @@ static void with_an_old_key(struct random *r, struct lent *l, uint64_t seed)
     unsigned first = first_cached(l);
 
     plain_put_key(l->record, key ^ (1 + random_next(r) / 2));
-    CHECK(first == 64 ? names(audit_by(l, true, seed), SECOND_SOUND, 0)
-                      : names(audit_by(l, true, seed), SECOND_CACHE, first),
+    CHECK(first == 64 ? names(audit_by(l, 3, seed), SECOND_SOUND, 0)
+                      : names(audit_by(l, 3, seed), SECOND_CACHE, first),
           "seed %llu: another key in the record does not name list %u",
           (unsigned long long)seed, first);
-    CHECK(names(audit_by(l, false, seed), SECOND_SOUND, 0),
+    CHECK(names(audit_by(l, 1, seed), SECOND_SOUND, 0),
           "seed %llu: the key is asked of version 1", (unsigned long long)seed);
     plain_put_key(l->record, key);
 }
@@ -137,7 +140,7 @@ static void wrong_keys(uint32_t rounds)
 {
     uint64_t lists[64] = { 0 }, sound = 0, seeds = 1u << 23;
 
-    group("a wrong key in one cached chunk names its list, and only with keys");
+    group("a wrong key in one cached chunk names its list, from version 2 on");
     for (uint64_t i = 1; i <= rounds && !group_failed(); i++) {
         struct random r = { seeds + i };
         struct lent l = lend(random_test_length(&r), 0);
@@ -146,13 +149,13 @@ static void wrong_keys(uint32_t rounds)
         unsigned k = damage_key(&r, l.arena, l.record);
         if (k < 64) {
             lists[k]++;
-            CHECK(names(audit_by(&l, true, seeds + i), SECOND_CACHE, k),
+            CHECK(names(audit_by(&l, 2 + i % 2, seeds + i), SECOND_CACHE, k),
                   "seed %llu: not the fault of cache list %u",
                   (unsigned long long)(seeds + i), k);
         } else {
             sound++;
         }
-        CHECK(names(audit_by(&l, false, seeds + i), SECOND_SOUND, 0),
+        CHECK(names(audit_by(&l, 1, seeds + i), SECOND_SOUND, 0),
               "seed %llu: a fault of version 1", (unsigned long long)i);
         give_back(&l);
     }
@@ -160,6 +163,96 @@ static void wrong_keys(uint32_t rounds)
     for (unsigned k = 0; k < 64; k++)
         CHECK(lists[k] > 0 || rounds < 10000, "cache list %u was never named",
               k);
+}
+
+/* Which of the three that hold skip links a chunk is. */
+enum skipped { FIRST, MEMBER, IN_UNSORTED, SKIPPED };
+
+/* Finds the one word in which the damaged heap is not the one before. */
+static enum skipped damaged_one(const struct lent *l, const struct lent *before,
+                                unsigned bin, unsigned *word)
+{
+    size_t at = 0;
+    while (plain_get(l->arena + at, 8) == plain_get(before->arena + at, 8))
+        at += 8;
+    static struct plain_view view;
+    plain_read(&view, before->arena, (uint32_t)before->length, before->record);
+    uint32_t i = 0;
+    while (view.tile[i].at + view.tile[i].size <= at)
+        i++;
+    *word = (unsigned)(at - view.tile[i].at);
+    return bin == 1 ? IN_UNSORTED
+        : plain_get(before->arena + view.tile[i].at + 32, 8) == PLAIN_NONE64
+        ? MEMBER : FIRST;
+}
+
+/* Not a large heap: the slow audit would take too long for so many. */
+static void wrong_skips(uint32_t rounds)
+{
+    uint64_t bins[127] = { 0 }, met[SKIPPED][2] = { { 0 } }, seeds = 1u << 24;
+    unsigned named = 0;
+
+    group("a wrong skip link in one chunk names its bin, from version 3 on");
+    for (uint64_t i = 1; i <= rounds && !group_failed(); i++) {
+        struct random r = { seeds + i };
+        struct lent l = lend(random_medium_length(&r), 0);
+        struct lent before = lend(l.length, 0);
+        random_heap(&r, l.arena, (uint32_t)l.length, l.record);
+        copy_lent(&before, &l);
+        unsigned bin = damage_skip(&r, l.arena, l.record), word = 0;
+        if (bin > 0) {
+            enum skipped which = damaged_one(&l, &before, bin, &word);
+            CHECK(word == 32 || word == 40, "seed %llu: word %u was changed",
+                  (unsigned long long)(seeds + i), word);
+            met[which][word / 8 % 2]++;
+            bins[bin]++;
+            CHECK(names(audit_by(&l, 3, seeds + i), SECOND_BIN, bin),
+                  "seed %llu: not the fault of bin %u",
+                  (unsigned long long)(seeds + i), bin);
+        }
+        CHECK(names(audit_by(&l, 1 + i % 2, seeds + i), SECOND_SOUND, 0),
+              "seed %llu: a fault of an older version", (unsigned long long)i);
+        give_back(&before);
+        give_back(&l);
+    }
+    for (unsigned bin = 1; bin <= 126; bin++)
+        named += bins[bin] > 0;
+    remark(", forward and back link of %llu and %llu firsts, %llu and %llu "
+           "others of a group, %llu and %llu in unsorted; %u bins",
+           (unsigned long long)met[FIRST][0], (unsigned long long)met[FIRST][1],
+           (unsigned long long)met[MEMBER][0],
+           (unsigned long long)met[MEMBER][1],
+           (unsigned long long)met[IN_UNSORTED][0],
+           (unsigned long long)met[IN_UNSORTED][1], named);
+    for (unsigned i = 0; i < 2 * SKIPPED; i++)
+        CHECK(met[i / 2][i % 2] > 0, "kind %u of skip link was never wrong", i);
+}
+
+/* A fault of a bin before it comes first, one of a bin behind it does not. */
+static void skips_in_order(uint32_t rounds)
+{
+    uint64_t seeds = 1u << 25, met = 0;
+
+    group("wrong skip links in two chunks name the lower bin");
+    for (uint64_t i = 1; i <= rounds && !group_failed(); i++) {
+        struct random r = { seeds + i };
+        struct lent l = lend(random_medium_length(&r), 0);
+        random_heap(&r, l.arena, (uint32_t)l.length, l.record);
+        unsigned one = damage_skip(&r, l.arena, l.record);
+        unsigned other = damage_skip(&r, l.arena, l.record);
+        struct second_fault f = audit_by(&l, 3, seeds + i);
+        if (one != other) {
+            met++;
+            CHECK(names(f, SECOND_BIN, one < other ? one : other),
+                  "seed %llu: bins %u and %u, and the audit says %u %u",
+                  (unsigned long long)(seeds + i), one, other, f.kind,
+                  f.number);
+        }
+        give_back(&l);
+    }
+    remark(", %llu heaps", (unsigned long long)met);
+    CHECK(met > rounds / 8, "only %llu heaps had two such bins",
+          (unsigned long long)met);
 }
 
 /* One rule broken in a heap that is otherwise in order. */
@@ -291,6 +384,8 @@ int main(int argc, char **argv)
                   damage_bytes, 1u << 21, 50000 / share);
     flawed_heaps(20000 / share);
     wrong_keys(12000 / share);
+    wrong_skips(12000 / share);
+    skips_in_order(3000 / share);
     calls_on_unsound(40000 / share);
     any_bytes(40000 / share);
     return finish();

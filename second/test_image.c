@@ -1,6 +1,6 @@
 /*
  * Images: the bytes of small ones, each refusal and the order of them, round
- * trips of random heaps, of both versions; and what heapimage prints of heaps,
+ * trips of random heaps, of every version; and what heapimage prints of heaps,
  * sound ones and ones damaged by hand. Every expected byte, number and line
  * here was worked out by hand from the documents.
  */
@@ -15,8 +15,9 @@
 #include "traces.h"
 
 #define HEADER 9u
+#define NEWEST 3u /* of the versions; this one is written */
 
-/* Where the arena begins in an image of version 1, which has no key, and 2. */
+/* Where the arena begins in an image; one of version 1 has no key. */
 static size_t arena_in(unsigned version)
 {
     return version == 1 ? 1581 : 1589;
@@ -57,7 +58,7 @@ static bool all_are(const struct bytes *b, uint8_t fill)
 /* The image of a heap of good shape. */
 static struct bytes image_of(const struct lent *l)
 {
-    struct bytes file = filled(arena_in(2) + l->length, 0x5a);
+    struct bytes file = filled(arena_in(NEWEST) + l->length, 0x5a);
     struct second_answer a = second_write_image(
         l->arena, l->length, l->record, l->record_len, file.at, file.length);
     CHECK(a.no == 0 && a.mem == 0 && a.usable == 0,
@@ -66,7 +67,7 @@ static struct bytes image_of(const struct lent *l)
     return file;
 }
 
-/* The same put together here, in either version. */
+/* The same put together here, in any version. */
 static struct bytes image_by_hand(const struct lent *l, unsigned version)
 {
     size_t at = arena_in(version);
@@ -95,7 +96,7 @@ static uint8_t opened_record_byte(unsigned i)
 
 static void smallest_image(void)
 {
-    static const uint8_t header[HEADER] = { 0x48, 0x50, 0x49, 2, 0,
+    static const uint8_t header[HEADER] = { 0x48, 0x50, 0x49, 3, 0,
                                             32,   0,    0,    0 };
 
     group("image: every byte of a newly opened arena of 32 bytes");
@@ -135,7 +136,7 @@ static void larger_images(void)
         random_bytes(&r, l.arena, l.length);
         random_bytes(&r, l.record, l.record_len);
         struct bytes file = image_of(&l);
-        CHECK(memcmp(file.at, "HPI\2\0", 5) == 0, "another mark or version");
+        CHECK(memcmp(file.at, "HPI\3\0", 5) == 0, "another mark or version");
         CHECK(memcmp(file.at + 5, arena[i].field, 4) == 0,
               "another length field for %u", arena[i].length);
         CHECK(memcmp(file.at + 9, l.record, 1580) == 0
@@ -229,13 +230,32 @@ static struct bytes good_file(unsigned version, uint32_t length)
     return file;
 }
 
-/* Of the other version a file has another length. */
-static uint32_t damaged_no(unsigned i, const uint8_t *file)
+/* A good image of a newly opened arena, read. */
+static void reads(const uint8_t *bytes, size_t file_len, size_t length)
+{
+    struct bytes file = copy_of(bytes, file_len);
+    struct bytes arena = filled(length, 1), record = filled(1580, 2);
+    struct second_fault f = second_read_image(file.at, file_len, arena.at,
+                                              length, record.at, 1580);
+    CHECK(f.no == 0 && f.kind == SECOND_SOUND && f.number == 0,
+          "a file of %zu bytes is answered %u %u %u, not 0 0 0", file_len, f.no,
+          f.kind, f.number);
+    CHECK(memcmp(arena.at, bytes + file_len - length, length) == 0,
+          "a file of %zu bytes is read otherwise", file_len);
+    free(file.at);
+    free(arena.at);
+    free(record.at);
+}
+
+/* Versions 2 and 3 have the same length; 0 is no refusal then. */
+static uint32_t damaged_no(unsigned i, const uint8_t *file, unsigned was)
 {
     if (i < 3)
         return 6;
     uint64_t version = plain_get(file + 3, 2);
-    return i < 5 && version != 1 && version != 2 ? 7 : 1;
+    if (version < 1 || version > NEWEST)
+        return 7;
+    return i < 5 && arena_in((unsigned)version) == arena_in(was) ? 0 : 1;
 }
 
 static void damaged_headers(unsigned version)
@@ -246,8 +266,11 @@ static void damaged_headers(unsigned version)
             uint8_t right = file.at[i];
             for (unsigned flip = 1; flip < 256; flip++) {
                 file.at[i] = right ^ (uint8_t)flip;
-                refuses_reading(file.at, file.length, length, 1580,
-                                damaged_no(i, file.at));
+                uint32_t no = damaged_no(i, file.at, version);
+                if (no == 0)
+                    reads(file.at, file.length, length);
+                else
+                    refuses_reading(file.at, file.length, length, 1580, no);
             }
             file.at[i] = right;
         }
@@ -340,11 +363,12 @@ static void no_arena_lengths(unsigned version)
     free(file.at);
 }
 
-/* In files of both lengths. */
+/* In files of either length. */
 static void unknown_versions(unsigned as)
 {
-    static const uint32_t version[] = { 0, 3, 4, 255, 256, 257, 258, 512, 513,
-                                        32768, 32769, 65280, 65282, 65535 };
+    static const uint32_t version[] = { 0, 4, 5, 255, 256, 257, 258, 259, 512,
+                                        513, 768, 32768, 32769, 32771, 65280,
+                                        65283, 65535 };
     struct bytes file = good_file(as, 32);
 
     for (unsigned i = 0; i < sizeof version / sizeof version[0]; i++) {
@@ -383,11 +407,11 @@ static void order_of_refusals(unsigned version)
 
 typedef void refusals(unsigned version);
 
-static void of_both_versions(const char *name, refusals *of)
+static void of_each_version(const char *name, refusals *of)
 {
     group(name);
-    of(1);
-    of(2);
+    for (unsigned version = 1; version <= NEWEST; version++)
+        of(version);
 }
 
 /* ---- round trips ---- */
@@ -428,13 +452,14 @@ static struct second_fault round_trip(const struct lent *l, uint64_t seed)
     return f;
 }
 
-/* Reads the heap from an image of version 1; the answer. */
-static struct second_fault old_trip(const struct lent *l, uint64_t seed)
+/* Reads the heap from an image of an older version; the answer. */
+static struct second_fault old_trip(const struct lent *l, unsigned version,
+                                    uint64_t seed)
 {
-    struct second_fault audit = lent_audit_without_keys(l);
+    struct second_fault audit = lent_audit_by(l, version);
     struct lent expected = lend(l->length, 0);
     struct lent back = lend(l->length, 0xb7);
-    struct bytes file = image_by_hand(l, 1);
+    struct bytes file = image_by_hand(l, version);
     struct bytes kept = copy_of(file.at, file.length);
     struct second_fault f =
         second_read_image(file.at, file.length, back.arena, back.length,
@@ -442,7 +467,7 @@ static struct second_fault old_trip(const struct lent *l, uint64_t seed)
 
     copy_lent(&expected, l);
     plain_from_old(expected.arena, (uint32_t)expected.length, expected.record,
-                   audit.kind == SECOND_SOUND);
+                   version, audit.kind == SECOND_SOUND);
     CHECK(same_fault(f, audit),
           "seed %llu: an old heap is answered %u %u %u, not its audit's",
           (unsigned long long)seed, f.no, f.kind, f.number);
@@ -482,32 +507,35 @@ static void sound_images(uint32_t rounds)
     }
 }
 
-/* The words of the cached chunks are then any. */
-static void old_sound_images(uint32_t rounds)
+/* The words that a version does not ask are then any. */
+static void old_sound_images(const char *name, unsigned version,
+                             uint32_t rounds)
 {
-    uint64_t keyless = 0;
+    uint64_t lacking = 0;
 
-    group("image: sound heaps of version 1 get the key 0, and nothing else");
+    group(name);
     for (uint64_t i = 1; i <= rounds && !group_failed(); i++) {
         struct random r = { (1u << 27) + i };
         struct lent l = random_lent(&r);
-        if (i % 2 == 0)
+        if (version == 1 && i % 2 == 0)
             damage_key(&r, l.arena, l.record);
-        if (i % 3 == 0)
+        if (version == 1 && i % 3 == 0)
             plain_put_key(l.record, random_key(&r));
-        keyless += !lent_sound(&l);
-        CHECK(old_trip(&l, i).kind == SECOND_SOUND,
-              "seed %llu: a sound heap of version 1 is not answered so",
-              (unsigned long long)i);
+        for (uint32_t times = random_below(&r, 6); times > 0; times--)
+            damage_skip(&r, l.arena, l.record);
+        lacking += !lent_sound(&l);
+        CHECK(old_trip(&l, version, i).kind == SECOND_SOUND,
+              "seed %llu: a sound heap of version %u is not answered so",
+              (unsigned long long)i, version);
         give_back(&l);
     }
     remark(", %llu of them not sound by today's rules",
-           (unsigned long long)keyless);
-    CHECK(keyless > rounds / 8, "only %llu have wrong keys",
-          (unsigned long long)keyless);
+           (unsigned long long)lacking);
+    CHECK(lacking > rounds / 10, "only %llu have wrong keys or skip links",
+          (unsigned long long)lacking);
 }
 
-static void damaged_images(const char *name, bool old, uint32_t rounds)
+static void damaged_images(const char *name, unsigned version, uint32_t rounds)
 {
     uint64_t kinds[7] = { 0 };
 
@@ -517,7 +545,8 @@ static void damaged_images(const char *name, bool old, uint32_t rounds)
         struct lent l = random_lent(&r);
         (i % 2 == 0 ? damage_field : damage_bytes)(
             &r, l.arena, (uint32_t)l.length, l.record);
-        kinds[(old ? old_trip : round_trip)(&l, i).kind]++;
+        kinds[(version < NEWEST ? old_trip(&l, version, i)
+                                : round_trip(&l, i)).kind]++;
         give_back(&l);
     }
     for (unsigned k = 0; k < 7; k++) {
@@ -531,7 +560,7 @@ static void damaged_images(const char *name, bool old, uint32_t rounds)
 static struct bytes random_file(struct random *r)
 {
     uint32_t step = random_chance(r, 80) ? 16 : 1;
-    unsigned version = 1 + random_below(r, 2);
+    unsigned version = 1 + random_below(r, NEWEST);
     size_t at = arena_in(version);
     struct bytes file =
         filled(random_chance(r, 30) ? random_below(r, 20)
@@ -560,10 +589,10 @@ static void read_any(const struct bytes *file, const struct bytes *arena,
     CHECK(memcmp(record->at, file->at + 9, at - 9) == 0
               && memcmp(arena->at, file->at + at, arena->length) == 0,
           "seed %llu: other bytes were read", (unsigned long long)seed);
-    CHECK(version == 2 || plain_key(record->at) == 0,
+    CHECK(version > 1 || plain_key(record->at) == 0,
           "seed %llu: another key than 0", (unsigned long long)seed);
     CHECK(same_fault(f, oracle_audit(arena->at, arena->length, record->at,
-                                     1580, version == 2)),
+                                     1580, version)),
           "seed %llu: another audit", (unsigned long long)seed);
 }
 
@@ -575,7 +604,7 @@ static void any_files(uint32_t rounds)
     for (uint64_t seed = 1; seed <= rounds && !group_failed(); seed++) {
         struct random r = { seed << 20 };
         struct bytes file = random_file(&r);
-        size_t at = arena_in(file.length > 3 ? file.at[3] : 2);
+        size_t at = arena_in(file.length > 3 ? file.at[3] : NEWEST);
         size_t length = file.length < at ? 32 : file.length - at;
         struct bytes arena = filled(length, 1), record = filled(1580, 2);
         struct second_fault f =
@@ -645,10 +674,17 @@ static void shows_by(unsigned version, const char *answer, const char *tiles)
     free(file.at);
 }
 
+/* In images of that version and of all newer ones. */
+static void shows_since(unsigned version, const char *answer,
+                        const char *tiles)
+{
+    for (; version <= NEWEST; version++)
+        shows_by(version, answer, tiles);
+}
+
 static void shows(const char *answer, const char *tiles)
 {
-    shows_by(1, answer, tiles);
-    shows_by(2, answer, tiles);
+    shows_since(1, answer, tiles);
 }
 
 static void put_link(uint32_t c, uint64_t to)
@@ -665,6 +701,12 @@ static void put_back_link(uint32_t c, uint64_t to)
 static void put_key(uint32_t c, uint64_t key)
 {
     plain_put(heap.arena + c + 24, 8, key);
+}
+
+static void put_skips(uint32_t c, uint64_t forward, uint64_t back)
+{
+    plain_put(heap.arena + c + 32, 8, forward);
+    plain_put(heap.arena + c + 40, 8, back);
 }
 
 static void put_word(unsigned word, uint32_t v)
@@ -690,9 +732,9 @@ static void prints_refusals(unsigned version)
     snprintf(expected, sizeof expected, "image %u 64\nsound\n0 64 top\n",
              version);
     shows_bytes(file.at, file.length, expected);
-    file.at[3] = (uint8_t)(3 - version); /* another length is then right */
+    file.at[3] = version == 1 ? 2 : 1; /* another length is then right */
     shows_bytes(file.at, file.length, "? 1\n");
-    file.at[3] = 3;
+    file.at[3] = 4;
     shows_bytes(file.at, file.length, "? 7\n");
     shows_bytes(file.at, 5, "? 7\n");
     shows_bytes(file.at, 4, "? 6\n");
@@ -702,7 +744,7 @@ static void prints_refusals(unsigned version)
     /* More bytes than such an image has: 6 and 7 still come before 1. */
     struct bytes whole = filled(at + 262144 + 9, 0);
     shows_bytes(whole.at, whole.length, "? 6\n");
-    memcpy(whole.at, "HPI\3\0\0\0\4\0", 9);
+    memcpy(whole.at, "HPI\4\0\0\0\4\0", 9);
     shows_bytes(whole.at, whole.length, "? 7\n");
     whole.at[3] = (uint8_t)version;
     for (size_t more = 1; more <= 9; more++)
@@ -776,7 +818,7 @@ static void stacks_that_cross(void)
     shows_by(1, "fault cache 0", FOUR_LIVE THREE_CACHED "224 32 cache 0\n"
                                  "256 768 top\n");
     /* by its second word it is none of the cache's, and so it is fast */
-    shows_by(2, "fault cache 0", FOUR_LIVE THREE_CACHED FAST_AND_TOP);
+    shows_since(2, "fault cache 0", FOUR_LIVE THREE_CACHED FAST_AND_TOP);
     put_key(224, KEY);
     shows("fault cache 0", FOUR_LIVE THREE_CACHED "224 32 cache 0\n"
                            "256 768 top\n");
@@ -831,7 +873,7 @@ static void wrong_keys(void)
         for (unsigned i = 0; i < sizeof bad / sizeof bad[0]; i++) {
             put_key(c, bad[i]);
             shows_by(1, "sound", SEVEN_AND_ONE);
-            shows_by(2, "fault cache 0", cached_down_to(c + 32));
+            shows_since(2, "fault cache 0", cached_down_to(c + 32));
         }
         put_key(c, KEY);
     }
@@ -844,7 +886,7 @@ static void wrong_keys(void)
     for (unsigned i = 0; i < sizeof bad / sizeof bad[0]; i++) {
         plain_put_key(heap.record, bad[i]);
         shows_by(1, "sound", SEVEN_AND_ONE);
-        shows_by(2, "fault cache 0", cached_down_to(224));
+        shows_since(2, "fault cache 0", cached_down_to(224));
     }
     stop();
 
@@ -852,10 +894,10 @@ static void wrong_keys(void)
     put_key(192, 0);
     put_word(plain_fast_head(0), 192);
     shows_by(1, "fault fast 0", ALL_CACHED "224 32 live\n256 768 top\n");
-    shows_by(2, "fault cache 0",
-             "0 32 fast 0\n32 32 fast 0\n64 32 fast 0\n96 32 fast 0\n"
-             "128 32 fast 0\n160 32 fast 0\n192 32 fast 0\n224 32 live\n"
-             "256 768 top\n");
+    shows_since(2, "fault cache 0",
+                "0 32 fast 0\n32 32 fast 0\n64 32 fast 0\n96 32 fast 0\n"
+                "128 32 fast 0\n160 32 fast 0\n192 32 fast 0\n224 32 live\n"
+                "256 768 top\n");
     stop();
 }
 
@@ -868,11 +910,11 @@ static void old_and_unsound(void)
         put_key(c, 3 * c + 7);
     put_word(plain_bin_last(2), 0);
     shows_by(1, "fault bin 2", SEVEN_AND_ONE);
-    shows_by(2, "fault cache 0", cached_down_to(224));
+    shows_since(2, "fault cache 0", cached_down_to(224));
     put_link(96, 8);
     shows_by(1, "fault cache 0", "0 32 live\n32 32 live\n64 32 live\n"
                                  "96 32 cache 0\n" THREE_CACHED FAST_AND_TOP);
-    shows_by(2, "fault cache 0", cached_down_to(224));
+    shows_since(2, "fault cache 0", cached_down_to(224));
     stop();
 }
 
@@ -1056,6 +1098,122 @@ static void bins_that_cross(void)
     stop();
 }
 
+/* Wrong in both words of the chunk, one after the other. */
+static void wrong_skips_in(uint32_t c, const char *fault, const char *tiles)
+{
+    static const uint64_t bad[] = { 1, 16, 2192, 0xffffffff,
+                                    ((uint64_t)1 << 32) + 1088,
+                                    (uint64_t)1 << 63, PLAIN_NONE64 - 1 };
+
+    for (unsigned word = 32; word <= 40; word += 8) {
+        uint64_t right = plain_get(heap.arena + c + word, 8);
+        for (unsigned i = 0; i < sizeof bad / sizeof bad[0]; i++) {
+            plain_put(heap.arena + c + word, 8, bad[i]);
+            shows_by(1, "sound", tiles);
+            shows_by(2, "sound", tiles);
+            shows_by(3, fault, tiles);
+        }
+        plain_put(heap.arena + c + word, 8,
+                  right == PLAIN_NONE64 ? c : PLAIN_NONE64);
+        shows_by(3, fault, tiles);
+        plain_put(heap.arena + c + word, 8, right);
+    }
+    shows("sound", tiles);
+}
+
+static void wrong_skips(void)
+{
+    group("heapimage: a wrong skip link condemns no chunk, and names its bin "
+          "from version 3 on");
+    start_bins();
+    skips_are(1088, 0, 0);
+    skips_are(0, 1088, 1088);
+    no_skips(2192);
+    skips_are(3280, 3280, 3280);
+    wrong_skips_in(1088, "fault bin 64", as_built());
+    wrong_skips_in(0, "fault bin 64", as_built());
+    wrong_skips_in(2192, "fault bin 64", as_built());
+    wrong_skips_in(3280, "fault bin 65", as_built());
+    put_skips(3280, 0, 0); /* before the flags, behind bin 64 */
+    plain_put(heap.arena + 2160 + 8, 8, 33);
+    shows_by(2, "fault flag 2160", as_built());
+    shows_by(3, "fault bin 65", as_built());
+    put_word(plain_bin_last(64), 0);
+    shows("fault bin 64", as_built());
+    put_skips(1088, 1, 1); /* and with its last right */
+    put_word(plain_bin_last(64), 2192);
+    shows_by(3, "fault bin 64", as_built());
+    stop();
+
+    start_bins(); /* in unsorted */
+    grants(1048, 2208, 1048);
+    releases(2208);
+    bin_is(1, 2192, 2192);
+    wrong_skips_in(2192, "fault bin 1",
+                   bin_tiles("bin 64", "bin 64", "bin 1", "bin 65"));
+    stop();
+}
+
+/* What is read of the heap in hand, with nothing right in its skip links. */
+static struct lent read_unskipped(unsigned version)
+{
+    static const uint32_t c[] = { 0, 1088, 2192, 3280 };
+    struct lent back = lend(heap.length, 0xb7);
+
+    for (unsigned i = 0; i < 4; i++)
+        put_skips(c[i], 0x5c15 + i, 0x5c25 + i);
+    struct bytes file = image_by_hand(&heap, version);
+    second_read_image(file.at, file.length, back.arena, back.length,
+                      back.record, back.record_len);
+    free(file.at);
+    return back;
+}
+
+static bool skips_read(const struct lent *l, uint32_t c, uint64_t forward,
+                       uint64_t back)
+{
+    return plain_get(l->arena + c + 32, 8) == forward
+        && plain_get(l->arena + c + 40, 8) == back;
+}
+
+/* Of start_bins; 3280 may be in unsorted. */
+static void old_rings_with(unsigned version, bool unsorted)
+{
+    uint64_t alone = unsorted ? PLAIN_NONE64 : 3280;
+    bool old = version < NEWEST;
+    struct lent back = read_unskipped(version);
+
+    CHECK(!old || (skips_read(&back, 1088, 0, 0)
+                   && skips_read(&back, 0, 1088, 1088)
+                   && skips_read(&back, 2192, PLAIN_NONE64, PLAIN_NONE64)
+                   && skips_read(&back, 3280, alone, alone)),
+          "version %u: other skip links are read", version);
+    CHECK(lent_sound(&back) == old, "version %u: a heap without skip links",
+          version);
+    CHECK(old || same_arena(&heap, &back), "version 3 is read otherwise");
+    give_back(&back);
+
+    plain_put(heap.arena + 2160 + 8, 8, 33); /* a flag, so it is not sound */
+    back = read_unskipped(version);
+    CHECK(same_arena(&heap, &back), "version %u: an unsound heap is written to",
+          version);
+    give_back(&back);
+}
+
+static void old_rings(unsigned version)
+{
+    start_bins();
+    old_rings_with(version, false);
+    stop();
+
+    start_bins();
+    grants(1128, 3296, 1128);
+    releases(3296);
+    bin_is(1, 3280, 3280);
+    old_rings_with(version, true);
+    stop();
+}
+
 static void unsorted_order(void)
 {
     group("heapimage: unsorted has no order, a fault ends no other walk");
@@ -1065,6 +1223,8 @@ static void unsorted_order(void)
     put_word(plain_bin_first(1), 0);
     put_word(plain_bin_last(1), 2192);
     link_by_offset();
+    put_skips(0, PLAIN_NONE64, PLAIN_NONE64);
+    put_skips(1088, PLAIN_NONE64, PLAIN_NONE64);
     shows("sound", bin_tiles("bin 1", "bin 1", "bin 1", "bin 65"));
     put_word(plain_cache_head(0), 8); /* the first list, a bin and a flag */
     put_link(1088, 8);
@@ -1131,6 +1291,8 @@ static void shows_bin(uint32_t size, unsigned bin)
     plain_put(heap.arena + 8, 8, size + 1);
     put_link(0, PLAIN_NONE64);
     put_back_link(0, PLAIN_NONE64);
+    if (size >= 1024)
+        put_skips(0, bin == 1 ? PLAIN_NONE64 : 0, bin == 1 ? PLAIN_NONE64 : 0);
     plain_put(heap.arena + size, 8, size);
     plain_put(heap.arena + size + 8, 8, 32);
     plain_put(heap.arena + size + 32 + 8, 8, 262144 - size - 32 + 1);
@@ -1189,12 +1351,12 @@ static void same_as_plain(const struct lent *l, uint32_t tiles, uint64_t seed)
               view.tile[i].at);
 }
 
-static void same_as_slow(const struct lent *l, bool keyed, uint32_t tiles,
-                         uint64_t seed)
+static void same_as_slow(const struct lent *l, unsigned version,
+                         uint32_t tiles, uint64_t seed)
 {
     static unsigned list[PLAIN_TILES_MAX + 1];
 
-    size_t slow = oracle_reached(l->arena, l->length, l->record, keyed, list);
+    size_t slow = oracle_reached(l->arena, l->length, l->record, version, list);
     CHECK(slow == tiles, "seed %llu: %u tiles, not %zu",
           (unsigned long long)seed, tiles, slow);
     for (uint32_t i = 0; i < tiles && !group_failed(); i++)
@@ -1216,11 +1378,12 @@ static struct lent random_harmed(struct random *r)
     flawed_heap(r, random_chance(r, 60) ? FLAW_NONE
                                         : 1 + random_below(r, FLAW_COUNT - 1),
                 l.arena, length, l.record);
-    switch (random_below(r, 7)) {
+    switch (random_below(r, 8)) {
     case 0: break;
     case 1: damage_bytes(r, l.arena, length, l.record); break;
     case 2: damage_field(r, l.arena, length, l.record); break;
     case 3: plain_put_key(l.record, random_key(r)); break;
+    case 4: damage_skip(r, l.arena, l.record); break;
     default: damage_lists(r, l.arena, length, l.record);
     }
     return l;
@@ -1234,13 +1397,12 @@ static void random_states(uint32_t rounds)
     for (uint64_t seed = 1; seed <= rounds && !group_failed(); seed++) {
         struct random r = { seed << 24 };
         struct lent l = random_harmed(&r);
-        bool keyed = random_chance(&r, 70);
-        struct second_fault f =
-            keyed ? lent_audit(&l) : lent_audit_without_keys(&l);
+        unsigned version = 1 + random_below(&r, NEWEST);
+        struct second_fault f = lent_audit_by(&l, version);
         if (f.kind != SECOND_RECORD && f.kind != SECOND_TILE) {
             uint32_t tiles = second_tiles(l.arena, (uint32_t)l.length,
-                                          l.record, keyed, tile);
-            same_as_slow(&l, keyed, tiles, seed);
+                                          l.record, version, tile);
+            same_as_slow(&l, version, tiles, seed);
             if (f.kind == SECOND_SOUND)
                 same_as_plain(&l, tiles, seed);
             *(f.kind == SECOND_SOUND ? &sound : &unsound) += 1;
@@ -1268,26 +1430,33 @@ int main(int argc, char **argv)
     smallest_image();
     larger_images();
     refused_writes();
-    of_both_versions("image: every header byte, damaged in every way, is "
-                     "refused", damaged_headers);
-    of_both_versions("image: every length but the whole file's is refused",
-                     short_files);
-    of_both_versions("image: lengths that are off by 1, by 8 and by 16 are "
-                     "refused with 1", wrong_lengths);
-    of_both_versions("image: length fields that no arena has are refused "
-                     "with 1", no_arena_lengths);
-    of_both_versions("image: versions other than 1 and 2 are refused with 7, "
-                     "before any length", unknown_versions);
-    of_both_versions("image: 6 comes before 7, and 7 before 1",
-                     order_of_refusals);
+    of_each_version("image: every header byte, damaged in every way, is "
+                    "refused, but 2 and 3 for each other", damaged_headers);
+    of_each_version("image: every length but the whole file's is refused",
+                    short_files);
+    of_each_version("image: lengths that are off by 1, by 8 and by 16 are "
+                    "refused with 1", wrong_lengths);
+    of_each_version("image: length fields that no arena has are refused "
+                    "with 1", no_arena_lengths);
+    of_each_version("image: versions other than 1, 2 and 3 are refused with "
+                    "7, before any length", unknown_versions);
+    of_each_version("image: 6 comes before 7, and 7 before 1",
+                    order_of_refusals);
     sound_images(5000 / share);
-    old_sound_images(5000 / share);
+    old_sound_images("image: sound heaps of version 1 get the key 0 and skip "
+                     "links, and nothing else", 1, 5000 / share);
+    old_sound_images("image: sound heaps of version 2 get skip links, and "
+                     "nothing else", 2, 5000 / share);
+    of_each_version("image: the skip links that a heap gets where it is read",
+                    old_rings);
     damaged_images("image: damaged heaps are read back as they were, with "
-                   "their fault", false, 8000 / share);
+                   "their fault", 3, 8000 / share);
     damaged_images("image: damaged heaps of version 1 are copied, with their "
-                   "fault", true, 8000 / share);
+                   "fault", 1, 8000 / share);
+    damaged_images("image: damaged heaps of version 2 are copied, with their "
+                   "fault", 2, 8000 / share);
     any_files(40000 / share);
-    of_both_versions("heapimage: a refusal is one line", prints_refusals);
+    of_each_version("heapimage: a refusal is one line", prints_refusals);
     stack_bad_links();
     stacks_that_cross();
     stack_circles();
@@ -1301,6 +1470,7 @@ int main(int argc, char **argv)
     wrong_lasts();
     wrong_order();
     bins_that_cross();
+    wrong_skips();
     unsorted_order();
     other_faults();
     top_in_a_list();

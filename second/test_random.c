@@ -5,7 +5,8 @@
  * blocks were granted and what their holders wrote. A resize is also put
  * together from other calls on a copy, and every byte compared; what a release,
  * an emptying and a joining leave is told by the tiles before them. Each heap
- * has a random key; two of them, with different keys, answer alike.
+ * has a random key; two of them, with different keys, answer alike. The skip
+ * links are those that the lists and sizes tell.
  */
 #include <stdio.h>
 #include <stdlib.h>
@@ -48,7 +49,7 @@ static struct plain_view view;     /* after the call */
 static struct plain_view expected; /* by tiles */
 
 /* What same_everywhere must come to; it moves only with the generator. */
-#define SAME_EVERYWHERE 0x2691b522bdd2b2adu
+#define SAME_EVERYWHERE 0xf90ffa6702385ba2u
 
 #define EXPECT(m, good, text) \
     CHECK(good, "seed %llu, call %u: %s", (unsigned long long)(m)->seed, \
@@ -171,12 +172,21 @@ static void live_is_held(struct model *m)
     EXPECT(m, live == m->blocks, "another number of blocks is live than held");
 }
 
+/* Written anew from the lists and sizes they are what they were. */
+static void skips_are_told(struct model *m)
+{
+    copy_lent(&m->parts, &m->heap);
+    plain_put_skips(m->parts.arena, m->parts.record);
+    EXPECT(m, same_arena(&m->heap, &m->parts), "a skip link is another");
+}
+
 /* A block just granted was not live before, so its bytes may be new. */
 static void after_call(struct model *m, bool granted)
 {
     EXPECT(m, lent_sound(&m->heap), "the heap is no longer sound");
     if (group_failed())
         return;
+    skips_are_told(m);
     EXPECT(m, plain_key(m->heap.record) == plain_key(m->before.record),
            "the record's key changed");
     bytes_unchanged(m, m->blocks - (granted ? 1 : 0));
@@ -378,7 +388,7 @@ static void audited_slowly(struct model *m)
     if (h->length > 2048 && !random_chance(&m->r, h->length > 8192 ? 2 : 20))
         return;
     struct second_fault f =
-        oracle_audit(h->arena, h->length, h->record, h->record_len, true);
+        oracle_audit(h->arena, h->length, h->record, h->record_len, 3);
     EXPECT(m, f.no == 0 && f.kind == SECOND_SOUND,
            "not sound after a resize, says the slow audit");
 }
@@ -872,6 +882,62 @@ static void among_fast_chunks(uint32_t rounds)
     tell_counts(&sum);
 }
 
+/* ---- groups of equals in large bins ---- */
+
+/*
+ * Large blocks of one bin, each behind a short one, released in any order and
+ * sorted now and then. Then the rings lose what grants take, and what a short
+ * block takes in that grows.
+ */
+static void groups_of_equals(struct model *m, uint32_t n, uint32_t count)
+{
+    uint32_t large[20], fence[20];
+
+    for (uint32_t i = 0; i < count; i++) {
+        fence[i] = granted(m, random_below(&m->r, 25));
+        large[i] = granted(m, n + 16 * random_below(&m->r, 4));
+    }
+    granted(m, 24);
+    for (uint32_t left = count; left > 0 && !group_failed(); left--) {
+        uint32_t drawn = random_below(&m->r, left);
+        released(m, large[drawn]);
+        large[drawn] = large[left - 1];
+        if (random_chance(&m->r, 30) || left == 1)
+            granted(m, m->heap.length);
+    }
+    for (uint32_t i = 0; i < 2 * count && !group_failed(); i++) {
+        uint32_t mem = fence[random_below(&m->r, count)];
+        copy_lent(&m->before, &m->heap);
+        if (find(m, mem) < m->blocks && random_chance(&m->r, 60))
+            call_resize(m, mem, 25 + random_below(&m->r, n));
+        else
+            call_grant(m, n + 16 * random_below(&m->r, 4));
+        m->calls++;
+    }
+}
+
+static void among_equals(uint32_t rounds)
+{
+    struct sums sum = { 0 };
+
+    group("groups of equals in large bins");
+    for (uint64_t seed = 1; seed <= rounds && !group_failed(); seed++) {
+        struct random r = { seed << 40 };
+        uint32_t n = 1080 + 64 * random_below(&r, 20);
+        uint32_t count = 3 + random_below(&r, 18);
+        uint32_t length = count * (n + 144) + 32 * random_below(&r, 100);
+        struct model m = model_of_length(r, seed, (length + 79) & ~15u);
+        random_bytes(&m.r, m.heap.arena, m.heap.length);
+        lent_open(&m.heap, random_key(&m.r));
+        groups_of_equals(&m, n, count);
+        if (!group_failed())
+            empty_and_join(&m);
+        add_counts(&sum, &m);
+        model_free(&m);
+    }
+    tell_counts(&sum);
+}
+
 /* ---- answers depend neither on bytes that mean nothing nor on the key ---- */
 
 /* What a call did to blocks; mem 0 is none. */
@@ -1103,6 +1169,7 @@ int main(int argc, char **argv)
               600 / share, 12);
     between_fast_chunks(4000 / share);
     among_fast_chunks(600 / share);
+    among_equals(1500 / share);
     twins(400 / share);
     two_keys(160 / share);
     return finish();

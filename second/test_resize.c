@@ -1,7 +1,7 @@
 /*
  * Request (i) of document 02: a trace for each way a resize can go, at and
- * beside its boundary, with what requests (vi) and (viii) change of it. Every
- * expected number here was worked out by hand from the documents.
+ * beside its boundary, with what requests (vi), (viii) and (x) change of it.
+ * Every expected number here was worked out by hand from the documents.
  */
 #include <string.h>
 
@@ -902,6 +902,70 @@ static void old_block_consolidates(void)
     old_block_yields(65536);
 }
 
+/* ---- skip links ---- */
+
+static void skips_of_a_rest(void)
+{
+    group("resize: a long rest has no skip links, a short one what was there");
+    start(8192);
+    grants(1512, 16, 1512);
+    grants(24, 1536, 24);
+    resizes(16, 24, 16, 24);
+    bin_is(1, 32, 32);
+    no_skips(32);
+    stop();
+
+    start(8192); /* joined with a chunk that leaves its ring */
+    grants(1512, 16, 1512);
+    grants(1112, 1536, 1112);
+    grants(24, 2656, 24);
+    releases(1536);
+    refuses(20000, 5);
+    bin_is(65, 1520, 1520);
+    skips_are(1520, 1520, 1520);
+    resizes(16, 24, 16, 24);
+    bin_is(65, NONE, NONE);
+    no_skips(32);
+    skips_are(1520, 1520, 1520); /* its own words stay, inside the whole */
+    stop();
+
+    start(8192); /* 160, of the binned chunk that it takes in */
+    grants(1104, 16, 1112);
+    grants(24, 1136, 24);
+    grants(1112, 1168, 1112);
+    grants(24, 2288, 24);
+    releases(1168);
+    refuses(20000, 5);
+    skips_are(1152, 1152, 1152);
+    resizes(1136, 984, 1136, 984);
+    bin_is(65, NONE, NONE);
+    cache_is(8, 2112, 1);
+    skips_are(1152, 1152, 1152); /* in the block */
+    skips_are(2112, UNWRITTEN, UNWRITTEN);
+    stop();
+}
+
+static void skips_of_an_old_block(void)
+{
+    group("resize: a moved block of 1,024 and more leaves no skip links");
+    start(8192);
+    grants(1112, 16, 1112);
+    grants(24, 1136, 24);
+    grants(1512, 1168, 1512);
+    grants(24, 2688, 24);
+    releases(1168);
+    refuses(20000, 5);
+    bin_is(71, 1152, 1152);
+    skips_are(1152, 1152, 1152);
+    fill(16, 1112);
+    resizes(16, 1500, 1168, 1512);
+    filled(1168, 1112); /* over the old skip links */
+    bin_is(71, NONE, NONE);
+    bin_is(1, 0, 0);
+    no_skips(0);
+    stop();
+}
+
 int main(void)
 {
     null_and_zero();
@@ -926,5 +990,7 @@ int main(void)
     step_5_past_the_cache();
     rest_consolidates();
     old_block_consolidates();
+    skips_of_a_rest();
+    skips_of_an_old_block();
     return finish();
 }

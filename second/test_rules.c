@@ -1,7 +1,7 @@
 /*
  * Document 01's figures, and traces for the places that are easy to get
- * wrong, with those of requests (vi), (vii) and (viii) of document 02. Every
- * expected number here was worked out by hand from the documents.
+ * wrong, with those of requests (vi), (vii), (viii) and (x) of document 02.
+ * Every expected number here was worked out by hand from the documents.
  */
 #include <string.h>
 
@@ -476,7 +476,7 @@ static void refused_leaves_its_steps(void)
     bin_is(2, 224, 224);
     bin_is(66, 288, 288); /* 32 at 288 joined with 1,120 at 320 */
     eight_is(288 + 8, 1152 + 1);
-    eight_is(320 + 8, 1120 + 1);
+    skips_are(288, 288, 288); /* over the header inside the whole */
     CHECK(memcmp(heap.record + 8, before.record + 8, 4 * 129) == 0,
           "last remainder or cache changed");
     give_back(&before);
@@ -787,7 +787,7 @@ static void fast_chunk_beside(void)
     fast_is(0, NONE);
     bin_is(1, 256, 256);
     eight_is(256 + 8, 65568 + 1);
-    eight_is(288 + 8, 65536 + 1); /* the header inside the whole stays */
+    no_skips(256); /* over the header inside the whole */
     eight_is(65824, 65568);
     eight_is(65824 + 8, 48);
     stop();
@@ -942,7 +942,7 @@ static void every_cache_list(void)
             CHECK(f.no == 0 && f.kind == SECOND_CACHE && f.number == k,
                   "bit %u of the key in list %u: %u %u %u", bit, k, f.no,
                   f.kind, f.number);
-            CHECK(lent_audit_without_keys(&heap).kind == SECOND_SOUND,
+            CHECK(lent_audit_by(&heap, 1).kind == SECOND_SOUND,
                   "a key is asked of a heap of version 1");
         }
         plain_put(heap.arena + c + 24, 8, KEY);
@@ -1139,6 +1139,534 @@ static void opened_with_another_key(void)
     stop();
 }
 
+/* ---- document 02, (x): skip links ---- */
+
+/* The chunks of start_rings, by the order of their sizes there. */
+static uint32_t at[8], size_of[8];
+
+/*
+ * Large blocks, each between two live ones of 32. They are released in turn;
+ * start_rings has them sorted too.
+ */
+static void start_large(const uint32_t *size, unsigned count)
+{
+    uint32_t c = 32;
+
+    start(16384);
+    grants(24, 16, 24);
+    for (unsigned i = 0; i < count; i++) {
+        at[i] = c;
+        size_of[i] = size[i];
+        grants(size[i] - 8, c + 16, size[i] - 8);
+        grants(24, c + size[i] + 16, 24);
+        c += size[i] + 32;
+    }
+}
+
+static void start_rings(const uint32_t *size, unsigned count)
+{
+    start_large(size, count);
+    for (unsigned i = 0; i < count; i++) {
+        releases(at[i] + 16);
+        no_skips(at[i]);
+    }
+    refuses(20000, 5);
+    bin_is(1, NONE, NONE);
+}
+
+/* The live block before it takes in all of the chunk, wherever that stands. */
+static void takes_in(unsigned i)
+{
+    uint32_t mem = at[i] - 16, usable = size_of[i] + 24;
+    resizes(mem, usable, mem, usable);
+}
+
+/* That these are the ring, the largest first. */
+static void ring_is(unsigned count, const unsigned *chunk)
+{
+    for (unsigned i = 0; i < count; i++)
+        skips_are(at[chunk[i]], at[chunk[(i + 1) % count]],
+                  at[chunk[(i + count - 1) % count]]);
+}
+
+#define RING(...) \
+    ring_is(sizeof (unsigned[]){ __VA_ARGS__ } / sizeof(unsigned), \
+            (const unsigned[]){ __VA_ARGS__ })
+
+static void one_group(void)
+{
+    static const uint32_t one[] = { 1504 };
+    static const uint32_t equal[] = { 1504, 1504, 1504, 1504 };
+
+    group("ring: one group points to itself, the others of it have none");
+    start_rings(one, 1);
+    bin_is(71, at[0], at[0]);
+    skips_are(32, 32, 32);
+    stop();
+
+    start_rings(equal, 4); /* 0, then 3, 2, 1 */
+    bin_is(71, at[0], at[1]);
+    RING(0);
+    for (unsigned i = 1; i < 4; i++)
+        no_skips(at[i]);
+    grants(1496, at[3] + 16, 1496); /* the second: no ring changes */
+    RING(0);
+    no_skips(at[3]);
+    grants(200, at[1] + 16, 200); /* the last, by step 7: neither */
+    RING(0);
+    no_skips(at[1]);
+    no_skips(at[1] + 208); /* its rest in unsorted, of 1,296 */
+    no_skips(at[2]);
+    stop();
+}
+
+/* Each sorted before the next is released. */
+static void ring_grows(void)
+{
+    static const uint32_t size[] = { 1488, 1520, 1472, 1504, 1488, 1520, 1472 };
+
+    group("ring: a new first before the next smaller, an equal in none");
+    start_large(size, 7);
+    for (unsigned i = 0; i < 7; i++) {
+        releases(at[i] + 16);
+        no_skips(at[i]);
+        refuses(20000, 5);
+        switch (i) {
+        case 0: RING(0); break;
+        case 1: RING(1, 0); break;
+        case 2: RING(1, 0, 2); break;
+        default: RING(1, 3, 0, 2); break;
+        }
+        for (unsigned k = 4; k <= i; k++)
+            no_skips(at[k]);
+    }
+    bin_is(71, at[1], at[6]);
+    stop();
+}
+
+/* 1,520, 1,504, 1,488 (0, 5, 2) and 1,472 are taken one by one. */
+static void ring_shrinks(void)
+{
+    static const uint32_t mixed[] = { 1488, 1520, 1488, 1472, 1504, 1488 };
+
+    group("ring: three groups and more, closed where steps 6 and 7 take");
+    start_rings(mixed, 6);
+    RING(1, 4, 0, 3);
+    no_skips(at[5]);
+    no_skips(at[2]);
+    grants(1465, at[5] + 16, 1480); /* the second of its group */
+    RING(1, 4, 0, 3);
+    no_skips(at[5]);
+    grants(1464, at[3] + 16, 1464); /* the smallest, alone in its group */
+    RING(1, 4, 0);
+    skips_are(at[3], at[1], at[0]); /* its own words stay */
+    grants(1464, at[2] + 16, 1480);
+    RING(1, 4, 0);
+    no_skips(at[2]);
+    grants(1464, at[0] + 16, 1480); /* its group has no other any more */
+    RING(1, 4);
+    skips_are(at[0], at[1], at[4]);
+    grants(1464, at[4] + 16, 1464); /* cut: the words are in what is granted */
+    RING(1);
+    skips_are(at[4], at[1], at[1]);
+    skips_are(at[3], at[1], at[0]); /* no later call has written them */
+    grants(200, at[1] + 16, 200);
+    bin_is(71, NONE, NONE);
+    skips_are(at[1], at[1], at[1]);
+    stop();
+
+    start_rings(mixed, 6); /* step 7 takes the last, a first */
+    grants(200, at[3] + 16, 200);
+    RING(1, 4, 0);
+    skips_are(at[3], at[1], at[0]);
+    no_skips(at[3] + 208);
+    stop();
+}
+
+static void first_leaves(void)
+{
+    static const uint32_t equal[] = { 1504, 1504, 1504 };
+    static const uint32_t groups[] = { 1472, 1488, 1504, 1488, 1472, 1504 };
+
+    group("ring: an equal takes the place of a first that leaves");
+    start_rings(equal, 3); /* 0, 2, 1 */
+    RING(0);
+    takes_in(0);
+    RING(2);
+    no_skips(at[1]);
+    skips_are(at[0], at[0], at[0]);
+    takes_in(2);
+    RING(1);
+    skips_are(at[2], at[2], at[2]);
+    takes_in(1);
+    bin_is(71, NONE, NONE);
+    skips_are(at[1], at[1], at[1]);
+    stop();
+
+    start_rings(groups, 6); /* 2, 5, 1, 3, 0, 4 */
+    RING(2, 1, 0);
+    takes_in(1); /* in the middle */
+    RING(2, 3, 0);
+    skips_are(at[1], at[0], at[2]);
+    takes_in(2); /* the largest */
+    RING(5, 3, 0);
+    skips_are(at[2], at[3], at[0]);
+    takes_in(0); /* the smallest */
+    RING(5, 3, 4);
+    skips_are(at[0], at[5], at[3]);
+    takes_in(3); /* and then without an equal: the middle, */
+    RING(5, 4);
+    skips_are(at[3], at[4], at[5]);
+    takes_in(5); /* the largest, the only one */
+    RING(4);
+    skips_are(at[5], at[4], at[4]);
+    takes_in(4);
+    bin_is(71, NONE, NONE);
+    skips_are(at[4], at[4], at[4]);
+    stop();
+}
+
+static void member_leaves(void)
+{
+    static const uint32_t equal[] = { 1504, 1504, 1504, 1472 };
+
+    group("ring: another of a group leaves, and the ring stays");
+    start_rings(equal, 4); /* 0, 2, 1, 3 */
+    RING(0, 3);
+    takes_in(1);
+    RING(0, 3);
+    no_skips(at[1]);
+    takes_in(2);
+    RING(0, 3);
+    no_skips(at[2]);
+    takes_in(0);
+    RING(3);
+    skips_are(at[0], at[3], at[3]);
+    stop();
+}
+
+/* Sizes of bins 64, 65 and 97. */
+static void a_ring_for_each_bin(void)
+{
+    static const uint32_t size[] = { 1072, 1136, 1056, 1088, 3136, 1072 };
+
+    group("ring: each bin has its own");
+    start_rings(size, 6);
+    bin_is(64, at[0], at[2]);
+    bin_is(65, at[1], at[3]);
+    bin_is(97, at[4], at[4]);
+    RING(0, 2);
+    RING(1, 3);
+    RING(4);
+    no_skips(at[5]);
+    stop();
+}
+
+/* Both neighbours of what is released are in one ring, and leave it. */
+static void both_neighbours_leave(void)
+{
+    group("ring: a join takes both neighbours out, the one before first");
+    start(8192);
+    grants(1480, 16, 1480);
+    grants(1112, 1504, 1112);
+    grants(1496, 2624, 1496);
+    grants(24, 4128, 24);
+    releases(16);
+    releases(2624);
+    refuses(20000, 5);
+    skips_are(0, 2608, 2608);
+    skips_are(2608, 0, 0);
+    releases(1504);
+    bin_is(71, NONE, NONE);
+    bin_is(1, 0, 0);
+    no_skips(0);
+    skips_are(2608, 2608, 2608); /* alone, when it left in its turn */
+    stop();
+}
+
+/* What the holder leaves where the skip links of the chunk at c would be. */
+static void hold_data(uint32_t c)
+{
+    plain_put(heap.arena + c + 32, 8, data(c));
+    plain_put(heap.arena + c + 40, 8, ~data(c));
+}
+
+static void data_is_held(uint32_t c)
+{
+    skips_are(c, data(c), ~data(c));
+}
+
+/* Eight blocks of the size, of which the eighth is in no cache list. */
+static void eighth_of(uint32_t size)
+{
+    start(16384);
+    for (uint32_t i = 0; i < 8; i++) {
+        grants(size - 8, i * (size + 32) + 16, size - 8);
+        grants(24, i * (size + 32) + size + 16, 24);
+        hold_data(i * (size + 32));
+    }
+    for (uint32_t i = 0; i < 8; i++)
+        releases(i * (size + 32) + 16);
+    for (uint32_t i = 0; i < 7; i++)
+        data_is_held(i * (size + 32)); /* cached: as it was */
+}
+
+static void into_unsorted(void)
+{
+    group("skip links: none in unsorted from 1,024 on, what was there below");
+    eighth_of(1024);
+    uint32_t c = 7 * 1056;
+    no_skips(c);
+    refuses(20000, 5);
+    bin_is(64, c, c);
+    skips_are(c, c, c);
+    stop();
+
+    eighth_of(1008);
+    c = 7 * 1040;
+    data_is_held(c);
+    refuses(20000, 5);
+    bin_is(63, c, c);
+    data_is_held(c);
+    stop();
+
+    start(8192); /* old links do not last */
+    grants(1496, 16, 1496);
+    grants(24, 1520, 24);
+    releases(16);
+    refuses(20000, 5);
+    skips_are(0, 0, 0);
+    grants(1496, 16, 1496);
+    skips_are(0, 0, 0);
+    releases(16);
+    no_skips(0);
+    grants(1496, 16, 1496); /* from unsorted, equal: as they were */
+    no_skips(0);
+    hold_data(0);
+    releases(16);
+    no_skips(0);
+    stop();
+}
+
+static void into_the_top(void)
+{
+    group("skip links: what becomes top keeps what was there");
+    start(8192);
+    grants(1496, 16, 1496);
+    hold_data(0);
+    releases(16);
+    word_is("top", 1, 0);
+    data_is_held(0);
+    stop();
+
+    start(8192); /* so does a chunk of a ring that is joined with it */
+    grants(1496, 16, 1496);
+    grants(1496, 1520, 1496);
+    releases(16);
+    refuses(20000, 5);
+    skips_are(0, 0, 0);
+    hold_data(1504);
+    releases(1520);
+    word_is("top", 1, 0);
+    bin_is(71, NONE, NONE);
+    skips_are(0, 0, 0);
+    data_is_held(1504);
+    stop();
+}
+
+/* Six chunks of 208 at 0, emptied from the last to the first. */
+static void joined_up_to_1024(void)
+{
+    group("skip links: none once what is joined reaches 1,024");
+    start(4096);
+    for (uint32_t i = 0; i < 6; i++) {
+        grants(200, 208 * i + 16, 200);
+        hold_data(208 * i);
+    }
+    grants(24, 1264, 24);
+    for (uint32_t i = 0; i < 6; i++)
+        releases(208 * i + 16);
+    empties();
+    bin_is(1, 0, 0);
+    eight_is(8, 1248 + 1);
+    no_skips(0);
+    no_skips(208); /* then it was 1,040 */
+    for (uint32_t i = 2; i < 6; i++)
+        data_is_held(208 * i); /* 832 and less */
+    stop();
+}
+
+/* A fast chunk of 32 before a binned one of 992, and of 976. */
+static void consolidated_up_to_1024(void)
+{
+    group("skip links: none where a consolidation yields 1,024");
+    for (uint32_t size = 976; size <= 992; size += 16) {
+        start(16384);
+        for (uint32_t i = 0; i < 7; i++)
+            grants(24, 32 * i + 16, 24);
+        grants(24, 240, 24); /* at 224 */
+        grants(size - 8, 272, size - 8); /* at 256 */
+        grants(24, 272 + size, 24);
+        for (uint32_t i = 0; i < 7; i++)
+            grants(size - 8, 288 + size + i * size + 16, size - 8);
+        for (uint32_t i = 0; i < 7; i++)
+            releases(288 + size + i * size + 16);
+        for (uint32_t i = 0; i < 7; i++)
+            releases(32 * i + 16);
+        releases(240);
+        releases(272);
+        bin_is(1, 256, 256);
+        fast_is(0, 224);
+        joins();
+        bin_is(1, 224, 224);
+        eight_is(224 + 8, size + 32 + 1);
+        if (size == 992)
+            no_skips(224);
+        else
+            eight_is(256 + 8, size + 1); /* the header inside the whole */
+        stop();
+    }
+}
+
+/* 1,504 bytes at 0, given away 208 by 208. */
+static void rests(void)
+{
+    group("skip links: none in a rest of 1,024 and more, by steps 5 and 8");
+    start(8192);
+    grants(1496, 16, 1496);
+    grants(24, 1520, 24);
+    releases(16);
+    grants(200, 16, 200); /* step 7 */
+    bin_is(1, 208, 208);
+    no_skips(208);
+    skips_are(0, 0, 0); /* of the chunk that was sorted before */
+    grants(200, 224, 200); /* step 5: 1,088 are left */
+    word_is("last remainder", 2, 416);
+    no_skips(416);
+    grants(200, 432, 200); /* step 5: 880 are left */
+    word_is("last remainder", 2, 624);
+    skips_are(624, UNWRITTEN, UNWRITTEN);
+    grants(200, 640, 200);
+    skips_are(832, UNWRITTEN, UNWRITTEN);
+    stop();
+
+    for (uint32_t rest = 1008; rest <= 1024; rest += 16) {
+        start(8192); /* steps 7 and 5 at the boundary */
+        grants(1096 + rest, 16, 1096 + rest);
+        grants(24, 1120 + rest, 24);
+        releases(16);
+        grants(80, 16, 88);
+        no_skips(96);
+        grants(1000, 112, 1000);
+        bin_is(1, 1104, 1104);
+        if (rest == 1024)
+            no_skips(1104);
+        else
+            skips_are(1104, UNWRITTEN, UNWRITTEN);
+        stop();
+
+        start(8192); /* step 6 */
+        grants(7168 - 8, 16, 7168 - 8);
+        grants(24, 7184, 24);
+        releases(16);
+        refuses(20000, 5);
+        grants(7168 - rest - 8, 16, 7168 - rest - 8);
+        bin_is(1, 7168 - rest, 7168 - rest);
+        if (rest == 1024)
+            no_skips(7168 - rest);
+        else
+            skips_are(7168 - rest, UNWRITTEN, UNWRITTEN);
+        stop();
+    }
+}
+
+/* That the heap is not sound for that bin, by the newest rules only. */
+static void names_bin(unsigned bin, uint32_t c, unsigned word, unsigned bit)
+{
+    struct second_fault f = lent_audit(&heap);
+    CHECK(f.no == 0 && f.kind == SECOND_BIN && f.number == bin,
+          "bit %u of word %u in the chunk %u: %u %u %u, not bin %u", bit, word,
+          c, f.no, f.kind, f.number, bin);
+    for (unsigned version = 1; version <= 2; version++)
+        CHECK(lent_audit_by(&heap, version).kind == SECOND_SOUND,
+              "a skip link is asked of a heap of version %u", version);
+    CHECK(lent_grant(&heap, 24).no == 3, "a grant with a wrong skip link");
+}
+
+static void wrong_words(unsigned bin, uint32_t c)
+{
+    for (unsigned word = 32; word <= 40; word += 8) {
+        uint64_t right = plain_get(heap.arena + c + word, 8);
+        for (unsigned bit = 0; bit < 64; bit++) {
+            plain_put(heap.arena + c + word, 8, right ^ ((uint64_t)1 << bit));
+            names_bin(bin, c, word, bit);
+        }
+        plain_put(heap.arena + c + word, 8, right);
+    }
+    CHECK(lent_sound(&heap), "not sound with all skip links");
+}
+
+/* The whole ring says something else: each word agrees with some other. */
+static void wrong_ring(unsigned count, const unsigned *chunk)
+{
+    struct lent right = lend(heap.length, 0);
+    copy_lent(&right, &heap);
+    for (unsigned i = 0; i < count; i++) {
+        uint32_t c = at[chunk[i]];
+        plain_put(heap.arena + c + 32, 8, at[chunk[(i + 1) % count]]);
+        plain_put(heap.arena + c + 40, 8, at[chunk[(i + count - 1) % count]]);
+    }
+    names_bin(71, at[chunk[0]], 32, 64);
+    copy_lent(&heap, &right);
+    give_back(&right);
+}
+
+#define WRONG_RING(...) \
+    wrong_ring(sizeof (unsigned[]){ __VA_ARGS__ } / sizeof(unsigned), \
+               (const unsigned[]){ __VA_ARGS__ })
+
+static void wrong_skips(void)
+{
+    static const uint32_t mixed[] = { 1488, 1520, 1488, 1472, 1504, 1488,
+                                      1136 };
+
+    group("skip links: a wrong one names its bin, whichever it is");
+    start_rings(mixed, 7);
+    RING(1, 4, 0, 3);
+    for (unsigned i = 0; i < 6; i++)
+        wrong_words(71, at[i]);
+    wrong_words(65, at[6]);
+    WRONG_RING(3, 0, 4, 1);          /* turned */
+    WRONG_RING(1, 4, 0);             /* the smallest left out */
+    WRONG_RING(1, 4, 5, 3);          /* the second of a group */
+    WRONG_RING(1, 4, 0, 5, 3);       /* two of a group */
+    WRONG_RING(1, 4, 0, 5, 2, 3);    /* all chunks */
+    WRONG_RING(1, 0, 4, 3);          /* another order */
+    WRONG_RING(0);                   /* to itself */
+    CHECK(lent_sound(&heap), "not sound with all skip links");
+    stop();
+
+    start_large(mixed, 7); /* in unsorted */
+    for (unsigned i = 0; i < 7; i++)
+        releases(at[i] + 16);
+    for (unsigned i = 0; i < 7; i++)
+        wrong_words(1, at[i]);
+    for (unsigned word = 32; word <= 40; word += 8) {
+        plain_put(heap.arena + at[0] + word, 8, at[0]);
+        names_bin(1, at[0], word, 64);
+        plain_put(heap.arena + at[0] + word, 8, PLAIN_NONE64);
+    }
+    stop();
+
+    eighth_of(1008); /* nobody asks them of less than 1,024 */
+    bin_is(1, 7 * 1040, 7 * 1040);
+    CHECK(lent_sound(&heap), "skip links are asked of 1,008 in unsorted");
+    refuses(20000, 5);
+    bin_is(63, 7 * 1040, 7 * 1040);
+    CHECK(lent_sound(&heap), "skip links are asked of 1,008 in its bin");
+    stop();
+}
+
 int main(void)
 {
     request_sizes();
@@ -1174,5 +1702,18 @@ int main(void)
     key_and_emptying();
     any_key();
     opened_with_another_key();
+    one_group();
+    ring_grows();
+    ring_shrinks();
+    first_leaves();
+    member_leaves();
+    a_ring_for_each_bin();
+    both_neighbours_leave();
+    into_unsorted();
+    into_the_top();
+    joined_up_to_1024();
+    consolidated_up_to_1024();
+    rests();
+    wrong_skips();
     return finish();
 }

@@ -32,6 +32,13 @@
     PLACE(STEP_9, "9 cuts the top")                                           \
     PLACE(STEP_9_AGAIN, "9 consolidates and goes to 5")                       \
     PLACE(STEP_9_REFUSED, "9 refuses")                                        \
+    PLACE(RING_ONLY, "ring: a new first is the only one")                     \
+    PLACE(RING_LARGEST, "ring: a new first is the largest")                   \
+    PLACE(RING_BETWEEN, "ring: a new first comes between two others")         \
+    PLACE(RING_SMALLEST, "ring: a new first is the smallest")                 \
+    PLACE(RING_CLOSES, "ring: closes where a first leaves")                   \
+    PLACE(RING_EQUAL, "ring: an equal takes a first's place")                 \
+    PLACE(RING_EQUAL_ONLY, "ring: an equal takes the only first's place")     \
     PLACE(JOIN_BEFORE, "join with the chunk before")                          \
     PLACE(JOIN_AFTER, "join with the chunk after")                            \
     PLACE(JOIN_BOTH, "join with both")                                        \

@@ -96,3 +96,14 @@ void second_is(uint32_t c, uint64_t expected)
 {
     eight_is(c + 24, expected);
 }
+
+void skips_are(uint32_t c, uint64_t forward, uint64_t back)
+{
+    eight_is(c + 32, forward);
+    eight_is(c + 40, back);
+}
+
+void no_skips(uint32_t c)
+{
+    skips_are(c, PLAIN_NONE64, PLAIN_NONE64);
+}

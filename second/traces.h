@@ -46,4 +46,8 @@ void eight_is(uint32_t at, uint64_t expected);
 /* What stands in the second word of the chunk at c. */
 void second_is(uint32_t c, uint64_t expected);
 
+/* What its two skip links are, or what stands where they would. */
+void skips_are(uint32_t c, uint64_t forward, uint64_t back);
+void no_skips(uint32_t c);
+
 #endif

@@ -9,9 +9,9 @@
  *
  * Seeds are fixed: a run is the same everywhere. The argument, a number, makes
  * it that many times as long, with further seeds. This file has the order of
- * the groups; figures.c, shapes.c, heaps.c, bigger.c, keys.c, images.c and
- * stack.c have the groups, pair.c has one call on both programs, holders.c the
- * holders of blocks and demand 3, guarded.c buffers between guards.
+ * the groups; figures.c, shapes.c, heaps.c, bigger.c, keys.c, skips.c, images.c
+ * and stack.c have the groups, pair.c has one call on both programs, holders.c
+ * the holders of blocks and demand 3, guarded.c buffers between guards.
  */
 #include "groups.h"
 #include "pair.h"
@@ -83,6 +83,10 @@ int main(int argc, char **argv)
     wrong_keys(1500 * times);
     old_keys(40 * times);
     two_keys(300 * times);
+    skip_places();
+    wrong_skips(1500 * times);
+    wrong_rings();
+    kept_rings(300 * times);
     sound_heaps("random sound heaps up to 8,192", 8192, 8000 * times);
     sound_heaps("random sound heaps up to 262,144", 262144, 200 * times);
     flawed_heaps(2000 * times);
@@ -117,8 +121,16 @@ int main(int argc, char **argv)
                   200 * times);
     harmed_images("images of heaps with a wrong key", harm_key, 21 << 20,
                   300 * times);
-    old_sound_images(1000 * times);
-    old_harmed_images(1000 * times);
+    harmed_images("images of heaps with a wrong skip link", harm_skip,
+                  22 << 20, 300 * times);
+    old_sound_images("images of version 1 of sound heaps, and calls on what "
+                     "is read in", 1, 1000 * times);
+    old_sound_images("images of version 2 of sound heaps, and calls on what "
+                     "is read in", 2, 1000 * times);
+    old_harmed_images("images of version 1 of harmed heaps are copied, and "
+                      "nothing more", 1, 1000 * times);
+    old_harmed_images("images of version 2 of harmed heaps are copied, and "
+                      "nothing more", 2, 1000 * times);
     continued_images(60 * times);
     stack_taken(600 * times);
     the_run();

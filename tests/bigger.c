@@ -346,6 +346,28 @@ static void equals(struct two_arenas *t)
         call_both(t, GRANT, n + 16 * random_below(r, spread));
 }
 
+/*
+ * Groups of equals in a large bin, each chunk before a block that no cache list
+ * owns; what its release joins leaves the ring.
+ */
+static void groups_of_equals(struct two_arenas *t)
+{
+    struct random *r = &t->smaller.r;
+    uint32_t n = 1080 + 64 * random_below(r, 4), mem[10], behind[10];
+    uint32_t count = 0;
+
+    for (; count < 10 && smaller_top(t) > 6000; count++) {
+        mem[count] = call_both(t, GRANT, n + 16 * random_below(r, 4));
+        behind[count] = call_both(t, GRANT, 1400);
+    }
+    for (uint32_t i = 0; i < count; i++)
+        call_both(t, RELEASE, mem[i]);
+    if (count > 0)
+        call_both(t, GRANT, 2000);
+    for (uint32_t i = random_below(r, count + 1); i > 0; i--)
+        call_both(t, RELEASE, behind[i - 1]);
+}
+
 /* The last remainder grows by a join while an equal of the request waits. */
 static void remainder_that_grows(struct two_arenas *t)
 {
@@ -450,6 +472,8 @@ void bigger_arenas(uint32_t rounds)
             equals(&t);
         else if (drawn < 7)
             remainder_that_grows(&t);
+        else if (drawn < 8)
+            groups_of_equals(&t);
         to_the_end(&t, 20 + random_below(&t.smaller.r, CALLS_MOST - 20));
     }
 }

@@ -28,7 +28,7 @@ void closed_heaps(void);
 
 /* heaps.c; a harm makes the archive's heap of a pair */
 typedef void harm(struct pair *);
-harm harm_field, harm_high, harm_bytes, harm_key, harm_all;
+harm harm_field, harm_high, harm_bytes, harm_key, harm_skip, harm_all;
 void sequences(const char *name, uint32_t from, uint32_t to, uint32_t rounds,
                uint32_t calls);
 void in_turn(uint32_t rounds);
@@ -56,6 +56,12 @@ void wrong_keys(uint32_t rounds);
 void old_keys(uint32_t rounds);
 void two_keys(uint32_t rounds);
 
+/* skips.c */
+void skip_places(void);
+void wrong_skips(uint32_t rounds);
+void wrong_rings(void);
+void kept_rings(uint32_t rounds);
+
 /* images.c */
 void image_bytes(void);
 void image_headers(void);
@@ -70,8 +76,8 @@ void harmed_images(const char *name, harm *do_harm, uint64_t seeds,
                    uint32_t rounds);
 harm harm_lists;
 void continued_images(uint32_t rounds);
-void old_sound_images(uint32_t rounds);
-void old_harmed_images(uint32_t rounds);
+void old_sound_images(const char *name, unsigned version, uint32_t rounds);
+void old_harmed_images(const char *name, unsigned version, uint32_t rounds);
 
 /* stack.c */
 void stack_taken(uint32_t rounds);

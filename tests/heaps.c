@@ -383,7 +383,10 @@ void harm_high(struct pair *p)
     const struct plain_tile *t = &view.tile[i];
     bool is_listed = t->state != PLAIN_LIVE && t->state != PLAIN_TOP;
     bool has_second = is_listed && t->state != PLAIN_FAST; /* key, back link */
+    bool has_skips = t->state == PLAIN_BINNED && t->size >= PLAIN_LARGE_MIN;
     uint32_t field = !t->p ? 0
+        : has_skips && random_chance(&p->r, 50)
+        ? 32 + 8 * random_below(&p->r, 2)
         : has_second && random_chance(&p->r, 50) ? 24
         : is_listed && random_chance(&p->r, 80)  ? 16
                                                  : 8;
@@ -398,6 +401,14 @@ void harm_key(struct pair *p)
     random_heap(&p->r, p->ours.arena, (uint32_t)p->ours.length,
                 p->ours.record);
     damage_key(&p->r, p->ours.arena, p->ours.record);
+}
+
+/* One chunk with another skip link than its ring says. */
+void harm_skip(struct pair *p)
+{
+    random_heap(&p->r, p->ours.arena, (uint32_t)p->ours.length,
+                p->ours.record);
+    damage_skip(&p->r, p->ours.arena, p->ours.record);
 }
 
 /* Bytes that are no heap, but for what an audit looks at first. */
@@ -456,12 +467,12 @@ void flawed_heaps(uint32_t rounds)
     static const enum flaw drawn[] = { FLAW_ORDER, FLAW_EIGHT, FLAW_ORDER,
                                        FLAW_EIGHT, FLAW_ORDER, FLAW_TOP,
                                        FLAW_HOME,  FLAW_NEIGHBOURS,
-                                       FLAW_KEY };
+                                       FLAW_KEY,   FLAW_SKIP };
     uint64_t before = tally.calls, unsound[FLAW_COUNT] = { 0 };
 
     group("heaps that break one rule throughout");
     for (uint64_t i = 1; i <= rounds && !group_failed(); i++) {
-        enum flaw flaw = drawn[i % 9];
+        enum flaw flaw = drawn[i % 10];
         struct pair p = flawed((1 << 20) + i, flaw);
         unsound[flaw] += both_audits(&p).kind != SECOND_SOUND;
         calls_on_any(&p, 1 + random_below(&p.r, 3));

@@ -2,10 +2,10 @@
  * Writes images for heapimage:
  *
  *     image_maker FOLDER COUNT      writes FOLDER/1 .. FOLDER/COUNT
- *     image_maker FOLDER samples    writes the samples of version 2 there
+ *     image_maker FOLDER samples    writes the samples of version 3 there
  *
  * The former are random, each by its own seed, so that image i is the same on
- * every machine: of both versions, of sound heaps, of heaps damaged in many
+ * every machine: of every version, of sound heaps, of heaps damaged in many
  * ways, and files that are spoilt. The latter are those of tests/images.
  */
 #include <stdbool.h>
@@ -32,12 +32,13 @@ static void make_heap(struct random *r, uint32_t length)
     enum flaw flaw = random_chance(r, 80) ? FLAW_NONE
                                           : 1 + random_below(r, FLAW_COUNT - 1);
     flawed_heap(r, flaw, arena, length, record);
-    switch (random_below(r, 12)) {
+    switch (random_below(r, 13)) {
     case 0: case 1: case 2: damage_lists(r, arena, length, record); break;
     case 3: case 4: case 5: damage_field(r, arena, length, record); break;
     case 6: damage_bytes(r, arena, length, record); break;
     case 7: damage_key(r, arena, record); break;
     case 8: plain_put_key(record, random_key(r)); break;
+    case 9: damage_skip(r, arena, record); break;
     default: break;
     }
 }
@@ -60,7 +61,7 @@ static void make_image(struct random *r)
         : random_length(r, random_chance(r, 10) ? PLAIN_ARENA_MAX : 8192);
 
     make_heap(r, length);
-    put_image(random_chance(r, 40) ? 1 : 2, length);
+    put_image(1 + random_below(r, 3), length);
 }
 
 /* Another length, near the file's own or far from it, allowed or not. */
@@ -87,11 +88,12 @@ static void lengthen(struct random *r)
 
 static void spoil(struct random *r)
 {
-    static const uint32_t version[] = { 0, 1, 2, 3, 4, 256, 257, 258, 65535 };
+    static const uint32_t version[] = { 0,   1,   2,   3,   4,
+                                        256, 257, 258, 259, 65535 };
 
     switch (random_below(r, 6)) {
     case 0: random_bytes(r, file + random_below(r, HEADER), 1); break;
-    case 1: plain_put(file + 3, 2, version[random_below(r, 9)]); break;
+    case 1: plain_put(file + 3, 2, version[random_below(r, 10)]); break;
     case 2: plain_put(file + 5, 4, other_length(r)); break;
     case 3: file_length = random_below(r, 12); break;
     case 4: file_length = random_below(r, (uint32_t)file_length); break;
@@ -128,11 +130,17 @@ static void write_random(const char *folder, unsigned images)
 
 /* ---- samples ---- */
 
-#define SAMPLE_BYTES 2048
 #define SAMPLE_KEY 0x9d3f5b17e8c4620au
 
-/* Grants and releases, such as 17G24 and R16. */
-static void perform(const char *calls)
+#define MELT \
+    "17G24 G1048 G100 G40 G200 R16 R48 R80 R112 R144 R176 R208 R240 R272 " \
+    "R304 R336 R400 R432 R560 G1500 G72 R496 R1728 R1776"
+#define RINGS \
+    "G24 G1480 G24 G1512 G24 G1480 G24 G1464 G24 G1128 G24 G1200 G24 " \
+    "R48 R1568 R3120 R4640 R6144 G262144 R7312"
+
+/* Grants and releases, such as 17G24 and R16, in an arena of that length. */
+static void perform(const char *calls, uint32_t length)
 {
     while (*calls != '\0') {
         char *at;
@@ -141,35 +149,32 @@ static void perform(const char *calls)
         uint64_t number = strtoul(at + 1, &at, 10);
         for (unsigned long i = 0; i < (times == 0 ? 1 : times); i++)
             if (letter == 'G')
-                second_grant(arena, SAMPLE_BYTES, record, sizeof record,
-                             number);
+                second_grant(arena, length, record, sizeof record, number);
             else
-                second_release(arena, SAMPLE_BYTES, record, sizeof record,
-                               number);
+                second_release(arena, length, record, sizeof record, number);
         calls = *at == ' ' ? at + 1 : at;
     }
 }
 
-/* The melt, with one byte of its image changed. */
-static void write_sample(const char *folder, const char *name, size_t at,
+/* What the calls leave, with one byte of its image changed. */
+static void write_sample(const char *folder, const char *name,
+                         const char *calls, uint32_t length, size_t at,
                          uint8_t byte)
 {
-    memset(arena, 0xa5, SAMPLE_BYTES);
-    second_open(arena, SAMPLE_BYTES, record, sizeof record, SAMPLE_KEY);
-    perform("17G24 G1048 G100 G40 G200 R16 R48 R80 R112 R144 R176 R208 R240 "
-            "R272 R304 R336 R400 R432 R560 G1500 G72 R496 R1728 R1776");
-    file_length = HEADER + PLAIN_RECORD_BYTES + SAMPLE_BYTES;
-    second_write_image(arena, SAMPLE_BYTES, record, sizeof record, file,
-                       file_length);
+    memset(arena, 0xa5, length);
+    second_open(arena, length, record, sizeof record, SAMPLE_KEY);
+    perform(calls, length);
+    file_length = HEADER + PLAIN_RECORD_BYTES + length;
+    second_write_image(arena, length, record, sizeof record, file, file_length);
     file[at] = byte;
     write_image(folder, name);
 }
 
 static void write_samples(const char *folder)
 {
-    write_sample(folder, "melt-2.hpi", 0, 'H');
-    write_sample(folder, "bad-key-2.hpi", 1741, 0x0b);
-    write_sample(folder, "bad-link-2.hpi", 1733, 0x68);
+    write_sample(folder, "melt-3.hpi", MELT, 2048, 0, 'H');
+    write_sample(folder, "rings-3.hpi", RINGS, 10240, 0, 'H');
+    write_sample(folder, "bad-skip-3.hpi", RINGS, 10240, 3174, 0x0c);
 }
 
 int main(int count, char **argument)

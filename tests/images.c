@@ -3,7 +3,7 @@
  * program, and against what document 02 says outright. Every byte of file,
  * arena and record is compared, and each of them stands between guards. A heap
  * read in then goes on beside the one that was written, or, from an image of
- * version 1, beside the one that the second program has read.
+ * version 1 or 2, beside the one that the second program has read.
  */
 #define _DEFAULT_SOURCE
 #include "groups.h"
@@ -20,8 +20,9 @@
 #define HEADER 9u
 #define RECORD 1580u
 #define OLD_RECORD 1572u /* in an image of version 1: without the key */
+#define NEWEST 3u        /* of the versions; this one is written */
 
-/* Where the arena stands in an image of that version, 1 or 2. */
+/* Where the arena stands in an image of that version. */
 static size_t arena_at(uint64_t version)
 {
     return HEADER + (version == 1 ? OLD_RECORD : RECORD);
@@ -42,10 +43,10 @@ static bool allowed(uint64_t length)
 /* By document 02 alone. */
 static bool is_image_of(const uint8_t *file, const struct lent *l)
 {
-    return memcmp(file, "HPI", 3) == 0 && plain_get(file + 3, 2) == 2
+    return memcmp(file, "HPI", 3) == 0 && plain_get(file + 3, 2) == NEWEST
         && plain_get(file + 5, 4) == l->length
         && memcmp(file + HEADER, l->record, RECORD) == 0
-        && memcmp(file + arena_at(2), l->arena, l->length) == 0;
+        && memcmp(file + arena_at(NEWEST), l->arena, l->length) == 0;
 }
 
 static struct lent between_guards(const struct guarded *arena,
@@ -60,7 +61,7 @@ static struct guarded write_both(struct pair *p, size_t slack)
 {
     size_t length = p->ours.length;
     struct guarded arena = guard(length, slack), record = guard(RECORD, slack);
-    struct guarded file = guard(arena_at(2) + length, slack);
+    struct guarded file = guard(arena_at(NEWEST) + length, slack);
     struct lent source = between_guards(&arena, &record);
     uint8_t *theirs = memory(file.length);
 
@@ -212,32 +213,35 @@ void continued_images(uint32_t rounds)
     remark(", %llu calls", (unsigned long long)(tally.calls - before));
 }
 
-/* ---- images of version 1 ---- */
+/* ---- images of older versions ---- */
 
 /* Put together here: nothing writes them any more. */
-static struct guarded old_image_of(const struct lent *l, size_t slack)
+static struct guarded old_image_of(const struct lent *l, unsigned version,
+                                   size_t slack)
 {
-    struct guarded file = guard(arena_at(1) + l->length, slack);
+    size_t at = arena_at(version);
+    struct guarded file = guard(at + l->length, slack);
 
-    memcpy(file.bytes, "HPI\1", 5);
+    memcpy(file.bytes, "HPI", 3);
+    plain_put(file.bytes + 3, 2, version);
     plain_put(file.bytes + 5, 4, l->length);
-    memcpy(file.bytes + HEADER, l->record, OLD_RECORD);
-    memcpy(file.bytes + arena_at(1), l->arena, l->length);
+    memcpy(file.bytes + HEADER, l->record, at - HEADER);
+    memcpy(file.bytes + at, l->arena, l->length);
     return file;
 }
 
 /* Both read the pair's heap from such an image, and go on with that. */
-static struct second_fault old_trip(struct pair *p)
+static struct second_fault old_trip(struct pair *p, unsigned version)
 {
     size_t length = p->ours.length, slack = random_below(&p->r, 40);
-    struct second_fault audit = lent_audit_without_keys(&p->theirs);
+    struct second_fault audit = lent_audit_by(&p->theirs, version);
     struct lent expected = lend(length, 0);
-    struct guarded file = old_image_of(&p->theirs, slack);
+    struct guarded file = old_image_of(&p->theirs, version, slack);
     struct guarded arena = guard(length, slack), record = guard(RECORD, slack);
     struct lent ours = between_guards(&arena, &record);
 
     copy_lent(&expected, &p->theirs);
-    plain_from_old(expected.arena, (uint32_t)length, expected.record,
+    plain_from_old(expected.arena, (uint32_t)length, expected.record, version,
                    audit.kind == SECOND_SOUND);
     random_bytes(&p->r, arena.bytes, length);
     random_bytes(&p->r, record.bytes, RECORD);
@@ -249,18 +253,18 @@ static struct second_fault old_trip(struct pair *p)
     tally.calls++;
     tally.faults[audit.kind]++;
     CHECK(same_fault(f, g) && same_fault(f, audit),
-          "seed %llu, arena of %zu: an image of version 1 is answered %u %u "
+          "seed %llu, arena of %zu: an image of version %u is answered %u %u "
           "%u, by the second program %u %u %u, by its audit %u %u %u",
-          (unsigned long long)p->seed, length, f.no, f.kind, f.number, g.no,
-          g.kind, g.number, audit.no, audit.kind, audit.number);
+          (unsigned long long)p->seed, length, version, f.no, f.kind, f.number,
+          g.no, g.kind, g.number, audit.no, audit.kind, audit.number);
     CHECK(same_arena(&ours, &expected) && same_record(&ours, &expected)
               && same_arena(&ours, &p->theirs)
               && same_record(&ours, &p->theirs),
-          "seed %llu, arena of %zu: an image of version 1 is read in otherwise",
-          (unsigned long long)p->seed, length);
+          "seed %llu, arena of %zu: an image of version %u is read otherwise",
+          (unsigned long long)p->seed, length, version);
     CHECK(f.kind != SECOND_SOUND || is_sound(&ours),
-          "seed %llu, arena of %zu: sound by version 1, and not when read in",
-          (unsigned long long)p->seed, length);
+          "seed %llu, arena of %zu: sound by version %u, and not when read in",
+          (unsigned long long)p->seed, length, version);
     CHECK(guard_kept(&arena) && guard_kept(&record) && guard_kept(&file),
           "seed %llu, arena of %zu: read_image wrote outside the buffers",
           (unsigned long long)p->seed, length);
@@ -272,42 +276,47 @@ static struct second_fault old_trip(struct pair *p)
     return f;
 }
 
-/* Sound but for the keys, which then count for nothing. */
-void old_sound_images(uint32_t rounds)
+/* Sound but for what the version does not ask, which counts for nothing. */
+void old_sound_images(const char *name, unsigned version, uint32_t rounds)
 {
-    uint64_t keyless = 0;
+    uint64_t lacking = 0;
 
-    group("images of version 1 of sound heaps, and calls on what is read in");
+    group(name);
     for (uint64_t i = 1; i <= rounds && !group_failed(); i++) {
         struct pair p = random_pair((19 << 20) + i);
         random_heap(&p.r, p.ours.arena, (uint32_t)p.ours.length,
                     p.ours.record);
-        if (i % 2 == 0)
+        if (version == 1 && i % 2 == 0)
             damage_key(&p.r, p.ours.arena, p.ours.record);
-        keyless += !is_sound(&p.ours);
+        for (uint32_t times = random_below(&p.r, 6); times > 0; times--)
+            damage_skip(&p.r, p.ours.arena, p.ours.record);
+        lacking += !is_sound(&p.ours);
         same_start(&p);
-        CHECK(old_trip(&p).kind == SECOND_SOUND,
-              "seed %llu: a key is asked of an image of version 1",
-              (unsigned long long)p.seed);
-        round_trip(&p); /* and written in version 2 */
+        CHECK(old_trip(&p, version).kind == SECOND_SOUND,
+              "seed %llu: a key or a skip link is asked of version %u",
+              (unsigned long long)p.seed, version);
+        round_trip(&p); /* and written in version 3 */
         calls_on_any(&p, 1 + random_below(&p.r, 6));
         pair_free(&p);
     }
-    remark(", %llu with a wrong key", (unsigned long long)keyless);
+    remark(", %llu with a wrong key or skip link",
+           (unsigned long long)lacking);
+    CHECK(lacking > rounds / 20, "only %llu are not sound today",
+          (unsigned long long)lacking);
 }
 
-void old_harmed_images(uint32_t rounds)
+void old_harmed_images(const char *name, unsigned version, uint32_t rounds)
 {
     static harm *const harms[] = { harm_field, harm_lists, harm_bytes,
                                    harm_all };
     uint64_t kinds[7] = { 0 };
 
-    group("images of version 1 of harmed heaps are copied, and nothing more");
+    group(name);
     for (uint64_t i = 1; i <= rounds && !group_failed(); i++) {
         struct pair p = random_pair((20 << 20) + i);
         harms[i % 4](&p);
         same_start(&p);
-        kinds[old_trip(&p).kind]++;
+        kinds[old_trip(&p, version).kind]++;
         calls_on_any(&p, 1);
         pair_free(&p);
     }
@@ -321,7 +330,7 @@ void old_harmed_images(uint32_t rounds)
 /* Every byte of a small one, as document 02 has them. */
 void image_bytes(void)
 {
-    static const uint8_t header[HEADER] = { 'H', 'P', 'I', 2, 0,
+    static const uint8_t header[HEADER] = { 'H', 'P', 'I', 3, 0,
                                             0x10, 0x02, 0, 0 };
     struct pair p = opened(700, 528);
 
@@ -406,7 +415,7 @@ static uint32_t reading_no(struct lengths n)
     if (n.file < 5 || memcmp(image, "HPI", 3) != 0)
         return 6;
     uint64_t version = plain_get(image + 3, 2);
-    if (version != 1 && version != 2)
+    if (version < 1 || version > NEWEST)
         return 7;
     uint64_t length = plain_get(image + 5, 4);
     bool agree = n.file >= HEADER && allowed(length)
@@ -492,7 +501,7 @@ static void damaged_headers(unsigned version, uint32_t length)
 void image_headers(void)
 {
     group("images with every header byte damaged in every way");
-    for (unsigned version = 1; version <= 2; version++)
+    for (unsigned version = 1; version <= NEWEST; version++)
         for (uint32_t length = 32; length <= 48; length += 16)
             damaged_headers(version, length);
 }
@@ -512,8 +521,8 @@ static void short_files(unsigned version)
 void image_short_files(void)
 {
     group("all files that are shorter than their image, or longer");
-    short_files(1);
-    short_files(2);
+    for (unsigned version = 1; version <= NEWEST; version++)
+        short_files(version);
 }
 
 /* Of the file, of its field, of arena and record: one or several of them. */
@@ -539,9 +548,9 @@ static void wrong_lengths(unsigned version)
 void image_lengths(void)
 {
     group("lengths of file, field, arena and record, off by 1, 8 and 16");
-    wrong_lengths(1);
-    wrong_lengths(2);
-    wrong_lengths(3); /* which is not known, and comes before any length */
+    for (unsigned version = 1; version <= NEWEST; version++)
+        wrong_lengths(version);
+    wrong_lengths(4); /* which is not known, and comes before any length */
 }
 
 /* The field says something else than file and arena, which agree. */
@@ -579,15 +588,15 @@ static void wrong_fields(unsigned version)
 void image_fields(void)
 {
     group("length fields that are not the file's, up to 4,294,967,295");
-    wrong_fields(1);
-    wrong_fields(2);
+    for (unsigned version = 1; version <= NEWEST; version++)
+        wrong_fields(version);
 }
 
-/* None but 1 and 2, in files as long as an image of either. */
+/* None but 1, 2 and 3, in files as long as an image of any of them. */
 void image_versions(void)
 {
     group("versions that are not known are refused with 7");
-    for (unsigned version = 1; version <= 2; version++) {
+    for (unsigned version = 1; version <= NEWEST; version++) {
         make_image(version, 64);
         for (uint32_t other = 0; other < 65536 && !group_failed();
              other += other < 600 ? 1 : 251) {
@@ -600,7 +609,7 @@ void image_versions(void)
 static void try_write_in(struct lengths n, size_t slack)
 {
     uint32_t no = allowed(n.arena) && n.record == RECORD
-            && n.file == arena_at(2) + n.arena ? 0 : 1;
+            && n.file == arena_at(NEWEST) + n.arena ? 0 : 1;
     uint8_t *theirs = memory(n.file);
 
     make_room(n, slack);
@@ -649,7 +658,7 @@ void image_writes(void)
                                1, 4,     8,     9,   16, 32 };
 
     group("images written to and from buffers of any length");
-    make_image(2, 32);
+    make_image(NEWEST, 32);
     for (unsigned i = 0; i < sizeof length / sizeof length[0]; i++)
         for (unsigned k = 0; k < sizeof record_len / sizeof record_len[0]; k++)
             for (unsigned j = 0; j < sizeof off / sizeof off[0]; j++) {
@@ -711,10 +720,10 @@ void images_past_32_bits(void)
         remark(", left out: the system lends no such stretch");
         return;
     }
-    make_image(2, 64);
-    far_buffers(far, past);
-    mprotect(far, ROOM, PROT_NONE);
-    make_image(1, 64);
-    far_buffers(far, past);
+    for (unsigned version = 1; version <= NEWEST; version++) {
+        mprotect(far, ROOM, PROT_NONE);
+        make_image(version, 64);
+        far_buffers(far, past);
+    }
     munmap(far, most);
 }

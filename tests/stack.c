@@ -40,11 +40,14 @@ static void the_call(void)
         call_ours(now.heap, now.call, now.number, now.n);
 }
 
-/* The image that was written becomes one of version 1: no key in its record. */
-static void make_old(size_t length)
+/*
+ * The image that was written becomes one of version 2, and that one of version
+ * 1: no key in its record.
+ */
+static void make_older(size_t length)
 {
-    file[3] = 1;
-    memmove(file + 1581, file + 1589, length);
+    if (--file[3] == 1)
+        memmove(file + 1581, file + 1589, length);
 }
 
 /* x86-64: the stack pointer is kept in a register that the callee keeps. */
@@ -157,8 +160,10 @@ void stack_taken(uint32_t rounds)
                          p.ours.record);
         take_any(&p.r, &p.ours, WRITE_IMAGE, i);
         take_any(&p.r, &p.ours, READ_IMAGE, i);
-        make_old(p.ours.length);
-        take_any(&p.r, &p.ours, READ_IMAGE, i);
+        for (unsigned version = 2; version >= 1; version--) {
+            make_older(p.ours.length);
+            take_any(&p.r, &p.ours, READ_IMAGE, i);
+        }
         for (unsigned call = AUDIT + 1; call-- > OPEN;)
             take_any(&p.r, &p.ours, call, i);
         pair_free(&p);

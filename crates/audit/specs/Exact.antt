@@ -12,26 +12,30 @@ use borrow.Author.Tests.{lt-ltb, le-ltb}
 use Rattle.le.specs.Arena.{arenaWords}
 use Rattle.sizes.specs.Limits.{none64, none32, newest}
 use Rattle.sizes.specs.Sizes.{binOf}
+use Rattle.sizes.specs.BinLaws.{binOf-wide}
 use Rattle.sizes.specs.Layout.{cacheHead, fastHead, binFirst, binLast, keyLow, keyHigh}
 use Rattle.machine.specs.Lists.{hd, lst, cnt}
 use Rattle.machine.specs.Count.{cnt-le-all}
 use Rattle.machine.specs.Heap.{tile, Heap, stack, cache, fast, bin, starts, topOf, topSize, sizeOf, total, binned, recordOf}
+use Rattle.machine.specs.Writes.{Write}
+use Rattle.machine.specs.Skips.{skips}
 use Rattle.machine.specs.View.{sizeAt, lowAt, up, kindAt, keyIn, view}
 use Rattle.machine.specs.Audit.{lists, auditBy, auditOf}
 use Rattle.machine.specs.declared.ListKind.{ListKind}
 use Rattle.machine.specs.declared.ListKind.the-variants.{Cache, Fast, Bin}
 use Rattle.machine.specs.declared.Audited.the-variants as A
-use Rattle.sound.specs.Relation.{MemBy, Homes, Good, SoundBy, Sound, chain, links, falls, stackSize}
+use Rattle.sound.specs.Relation.{MemBy, Homes, Good, SoundBy, Sound, chain, links, stand, falls, stackSize}
 use Rattle.sound.specs.Tiles.{lt-or-le, tiled-split, tiled-join, Start, start, tiles-split, tiles-join}
 use Rattle.sound.specs.Lists.{links-chain}
 use Rattle.sound.specs.Homes.{falls-cong}
+use Rattle.sound.specs.Rings.{skips-cong}
 use Rattle.sound.specs.RecordOf.{Recorded, record-words, record-ext}
 use Rattle.audit_walks.specs.Tiles.{TilesOk, one-tile, size-at}
 use Rattle.audit_walks.specs.Marks.{ArenaBytes}
 use Rattle.audit_walks.specs.TileTurn.{arena-length}
 use Rattle.audit.specs.Flags.{flags-noted}
 use Rattle.audit.specs.Lists.{Suited, Suit, suit-get, suit-all}
-use Rattle.audit.specs.Kinds.{kind-cache, kind-fast, kind-bin, CacheListed, cache-out, cache-in, FastListed, fast-out, fast-in, BinListed, bin-out, bin-in, up-hd, up-lst, up-one}
+use Rattle.audit.specs.Kinds.{kind-cache, kind-fast, kind-bin, CacheListed, cache-out, cache-in, FastListed, fast-out, fast-in, BinListed, bin-out, bin-in, skips-out, skips-in, skips-empty, up-hd, up-lst, up-one}
 use Rattle.audit.specs.Spelled.{Spelled, chunk-small, audit-spelled, spelled-read, spelled-audit}
 
 -- the allowed lengths of an arena
@@ -127,6 +131,10 @@ module _ (v : ℕ) (h : Heap) (w r : List ℕ) (a : 8 * length w ≤ 262144) (s 
     blinks = bin-cases h (s .bins) (s .none) (λ j l. links w none64 l none64) (λ j. tt) (λ j b c. sorted j b c .link);
     keys = λ z k x c m. cached k c .keys z x m ∙ s .key;
     key64 = omega (arith, s .key, b keyLow, b keyHigh);
+    skipped = λ z. bin-cases h (s .bins) (s .none) (λ j l. stand (skips j (λ x. sizeOf h x) l) w) (λ j. skips-empty j (λ x. sizeOf h x) w)
+        (λ j b c. subst (λ (ws : List Write). stand ws w)
+        (skips-cong j (λ x. sizeAt w x) (λ x. sizeOf h x) (bin h j) (λ x m. size-of x (bin-start h (s .own) j x m)))
+        (skips-out v j w (bin h j) (bin-suit j b c .3) z));
   }
 
   spelled-homes : Homes h
@@ -156,6 +164,9 @@ module _ (v : ℕ) (h : Heap) (w r : List ℕ) (a : 8 * length w ≤ 262144) (s 
       stacked74 = s .stacked;
       binned127 = s .bins;
       own = s .own;
+      roomy = λ j x b m.
+          let e : binOf (sizeOf h x) ≡ j = spelled-homes .sorted j x (omega arith) m in
+          binOf-wide (sizeOf h x) (omega (arith, e));
     };
     homes = spelled-homes;
     flag = s .flagged;
@@ -242,6 +253,7 @@ module _ (v : ℕ) (h : Heap) (w r : List ℕ) (s : SoundBy v h w r) where
       most = omega (arith, s .good .homes .short k b);
       keys = λ z x m. s .mem .keys z k x b m ∙ sym keyed;
     }),
+    refl,
   )
 
   fast-suits : (k : ℕ) → k < 10 → Suited v (Fast k) w r (fast h k)
@@ -252,6 +264,7 @@ module _ (v : ℕ) (h : Heap) (w r : List ℕ) (s : SoundBy v h w r) where
       own = λ x m. size-was x (stacks-in (64 + k) x m) ∙ s .good .homes .stacked (64 + k) x m ∙ stack-fast k;
       most = λ x m. omega (arith, size-was x (stacks-in (64 + k) x m), s .good .homes .quick (64 + k) x (omega arith) m);
     }),
+    refl,
   )
 
   bin-suits : (j : ℕ) → 1 ≤ j → j ≤ 126 → Suited v (Bin j) w r (bin h j)
@@ -263,8 +276,13 @@ module _ (v : ℕ) (h : Heap) (w r : List ℕ) (s : SoundBy v h w r) where
         falling = λ g. falls-cong (λ x. sizeOf h x) (λ x. sizeAt w x) (bin h j) (λ x m. size-was x (bins-in j x m)) (s .good .homes .falling j g);
         below = λ g n. absurd (n refl);
         last = ap up (recorded .lasts j b c) ∙ up-lst (bin h j) (λ x m. within x (bins-in j x m)) .0;
-      }) in
-      (ap up (recorded .firsts j b c) ∙ up-hd (bin h j) (λ x m. within x (bins-in j x m)) .0, l, g .1)
+      }) in (
+        ap up (recorded .firsts j b c) ∙ up-hd (bin h j) (λ x m. within x (bins-in j x m)) .0,
+        l,
+        g .1,
+        skips-in v j w (bin h j) (λ z. subst (λ (ws : List Write). stand ws w)
+            (skips-cong j (λ x. sizeOf h x) (λ x. sizeAt w x) (bin h j) (λ x m. sym (size-was x (bins-in j x m)))) (s .mem .skipped z j)),
+      )
 
   suits-at : (i : ℕ) → i < 200 → Suit v w r i (getD (lists h) i [])
   suits-at i b =

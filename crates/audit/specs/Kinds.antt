@@ -1,9 +1,10 @@
--- What a list that suits its kind says, test by test, and the way back: a cache list, a fast list, a bin. By induction on the list. Assumes nothing.
+-- What a list that suits its kind says, test by test, and the way back: a cache list, a fast list, a bin, a bin's skip links. By induction on the list.
+-- Assumes nothing.
 use mathlib.Core.Path.{_≡_, refl, sym, ap, _∙_}
 use mathlib.Core.List.{List, [], _∷_}
 use mathlib.Core.Logic.{_⊎_, inl, inr, ⊎-elim}
 use mathlib.Core.Bool.{Bool, true, false}
-use Prim.Native.Nat.{ℕ, suc, _+_, _*_, _≤_, _<_}
+use Prim.Native.Nat.{ℕ, suc, _+_, _*_, _/_, _≤_, _<_}
 use native.Mathlib.Nat.{not-suc-le-zero}
 use native.Mathlib.Omega.{arith}
 use lib.Dec.{eqb, ltb, leb}
@@ -15,11 +16,15 @@ use Rattle.sizes.specs.Layout.{cacheCount, binLast, backWord, keyWord}
 use Rattle.machine.specs.Lists.{either, hd, lst, cnt}
 use Rattle.machine.specs.Count.{eq?, ind-other, cnt-here, cnt-there}
 use Rattle.machine.specs.View.{sizeAt, up, kindAt, keyIn}
-use Rattle.machine.specs.Audit.{keyOk, mayStand}
+use Rattle.machine.specs.Writes.{Write, who, field, value, stand?}
+use Rattle.machine.specs.Skips.{skips}
+use Rattle.machine.specs.Audit.{keyOk, mayStand, skipsOk}
+use Rattle.machine.specs.declared.ListKind.{ListKind}
 use Rattle.machine.specs.declared.ListKind.the-variants.{Cache, Fast, Bin}
-use Rattle.sound.specs.Relation.{chain, links, falls}
+use Rattle.sound.specs.Relation.{chain, links, stand, falls}
 use Rattle.sound.specs.Tiles.{lt-or-le}
 use Rattle.sound.specs.Release.{both-true}
+use Rattle.sound.specs.Rings.{kind-case}
 use Rattle.audit_walks.specs.Tests.{either-true, either-left, either-right}
 use Rattle.audit.specs.Lists.{suits}
 
@@ -178,6 +183,35 @@ bin-in v j w r p n (c ∷ l) k =
       last = k .last;
     }) in
     ((k .link .0, t .0), (stands-bin v j w r p n c (record { own = k .own c (cnt-here c l); back = k .link .1; order = λ g q. k .below g q c (cnt-here c l) }), t .1))
+
+-- ---- words as writes would leave them
+stand-out : (ws : List Write) (w : List ℕ) → stand? ws w ≡ true → stand ws w
+stand-out [] w e = tt
+stand-out (x ∷ ws) w e =
+    let t = both-true (eqb (getD w (who x / 8 + field x) 0) (value x w)) (stand? ws w) e in
+    (eqb-true (getD w (who x / 8 + field x) 0) (value x w) (t .0), stand-out ws w (t .1))
+
+stand-in : (ws : List Write) (w : List ℕ) → stand ws w → stand? ws w ≡ true
+stand-in [] w s = refl
+stand-in (x ∷ ws) w s = rw (eq-eqb (getD w (who x / 8 + field x) 0) (value x w) (s .0), stand?) (stand-in ws w (s .1))
+
+-- the skip links of a bin: asked for from version 3 on
+pub skips-out : (v j : ℕ) (w l : List ℕ) → skipsOk v (Bin j) w l ≡ true → 3 ≤ v → stand (skips j (λ x. sizeAt w x) l) w
+skips-out v j w l e h =
+    ⊎-elim (λ z. absurd (omega (arith, ltb-true v 3 z))) (λ z. stand-out (skips j (λ x. sizeAt w x) l) w z) (either-true (ltb v 3) _ e)
+
+pub skips-in : (v j : ℕ) (w l : List ℕ) → (3 ≤ v → stand (skips j (λ x. sizeAt w x) l) w) → skipsOk v (Bin j) w l ≡ true
+skips-in v j w l h =
+    ⊎-elim (λ z. either-left (ltb v 3) _ (lt-ltb v 3 z)) (λ z. either-right (ltb v 3) _ (stand-in (skips j (λ x. sizeAt w x) l) w (h z))) (lt-or-le v 3)
+
+-- no chunk, no skip link
+pub skips-empty : (j : ℕ) (sz : ℕ → ℕ) (w : List ℕ) → stand (skips j sz []) w
+skips-empty j sz w = kind-case (λ ws. stand ws w) j [] [] (λ z. tt) (λ z. tt) tt
+
+pub skips-none : (v : ℕ) (k : ListKind) (w : List ℕ) → skipsOk v k w [] ≡ true
+skips-none v (Cache k) w = refl
+skips-none v (Fast k) w = refl
+skips-none v (Bin j) w = skips-in v j w [] (λ z. skips-empty j (λ x. sizeAt w x) w)
 
 -- ---- a word of the record, and the link of the arena that stands for it
 up-small : (x : ℕ) → x < 262144 → up x ≡ x

@@ -6,6 +6,7 @@ pub mod Exact
 pub mod Frame
 pub mod Done
 pub mod MarkLaws
+pub mod ListWalk
 pub mod ListTurn
 pub mod Whole
 pub mod Looks

@@ -1,9 +1,9 @@
 -- The turns of the nested loop over lists and chunks, and its ways out: the answer from the chunk at hand on is the whole's, and so is what is left of the
--- chunks. Neither loop's invariant speaks of the other. Assumes nothing.
+-- chunks. Neither loop's invariant speaks of the other. Where a list ends it is known to be good but for its skip links. Assumes nothing.
 use mathlib.Core.Path.{_≡_, refl, sym, ap, _∙_, subst}
 use mathlib.Core.List.{List, [], _∷_}
 use mathlib.Core.Bool.{Bool, true, false}
-use Prim.Native.Nat.{ℕ, zero, suc, _+_, _-_, _/_, _≤_, _<_}
+use Prim.Native.Nat.{ℕ, zero, suc, _+_, _-_, _*_, _/_, _≤_, _<_}
 use native.Mathlib.Nat.{le-of-suc-le-suc, not-suc-le-zero}
 use native.Mathlib.Omega.{arith}
 use lib.Dec.{ltb}
@@ -12,19 +12,23 @@ use borrow.Author.Tests.{eq-eqb, ne-eqb, ltb-true, ltb-false}
 use Rattle.sizes.specs.Limits.{none64}
 use Rattle.sizes.specs.Layout.{fwdWord, keyLow}
 use Rattle.machine.specs.Lists.{both, cnt, cntAll, has?, without, minus, tabulate}
-use Rattle.machine.specs.Count.{without-length}
-use Rattle.machine.specs.View.{sizeAt, up, kindAt, headWord, chunksFrom, listAt}
-use Rattle.machine.specs.Audit.{mayStand, mayEnd, goodFrom, listFault}
+use Rattle.machine.specs.Count.{without-cnt, without-length}
+use Rattle.machine.specs.View.{sizeAt, up, kindAt, headWord, chunksFrom, listAt, tilesOf}
+use Rattle.machine.specs.Audit.{mayStand, mayEnd, goodFrom, skipsOk, listFault}
 use Rattle.machine.specs.declared.ListKind.{ListKind}
 use Rattle.machine.specs.declared.ListKind.the-variants.{Cache, Fast, Bin}
 use Rattle.machine.specs.declared.Audited.{Audited}
 use Rattle.machine.specs.declared.Audited.the-variants as A
 use Rattle.audit_lists.specs.Owns.{Numbered}
+use Rattle.audit_lists.specs.Linked.{listOf, KindWalk}
 use Rattle.audit_lists.specs.Listed.{unmet, markOf, tailWord}
 use Rattle.audit_empty_lists.specs.Skips.{Empty, Skipped}
 use Rattle.audit_walks.specs.Tests.{not-sound}
+use Rattle.audit_walks.specs.Tiles.{TilesOk}
 use Rattle.audit_walks.specs.Marks.{Marks, Started, startsOf}
 use Rattle.audit.specs.Lists.{minusAll}
+use Rattle.audit.specs.Kinds.{skips-none}
+use Rattle.audit.specs.ListWalk.{good-walk}
 use Rattle.audit.specs.Spelled.{listsOf, listsOf-length}
 use Rattle.audit.specs.Done.{ListsDone, binnedOf}
 use Rattle.audit.specs.MarkLaws.{binCnt, unmet-has, unmet-inside, mark-step, marks-same}
@@ -72,9 +76,12 @@ bin-later x i l ls = go (ltb i 64) (ltb i 74) refl refl
         let g : 74 - suc i ≡ 0 = omega arith in
         ap (λ (n : ℕ). cntAll x (drop n (l ∷ ls))) e ∙ ap (λ (n : ℕ). cnt x l + cntAll x (drop n ls)) (sym g)
 
--- ---- the loops. resume: the body of listFault's clause at a later chunk, after p and n chunks, with the chunks l to come
+-- ---- the loops. resume: the body of listFault's clause at a later chunk, after p and n chunks, with the chunks l to come. The skip links are the whole list's
 abbrev resume : ℕ → List ℕ → List ℕ → ListKind → ℕ → List ℕ → ℕ → ℕ → List ℕ → List (List ℕ) → Audited
-resume v w r k i left p n l ls = elim (goodFrom v k w r left p n l) [ true ↦ listFault v w r (suc i) (minus left l) ls | false ↦ A.List k ]
+resume v w r k i left p n l ls = elim (both (goodFrom v k w r left p n l) (skipsOk v k w (listOf w r k))) [
+  | true ↦ listFault v w r (suc i) (minus left l) ls
+  | false ↦ A.List k
+]
 
 abbrev whole : ℕ → List ℕ → List ℕ → Audited
 whole v w r = listFault v w r 0 (startsOf w) (listsOf w r)
@@ -85,11 +92,12 @@ pub record Out (v : ℕ) (w r m : List ℕ) (i : ℕ) : Type 0 where
   pub b : ℕ → ℕ
   pub marks : Marks w m left b
   pub few : length left < length w
+  pub part : (x : ℕ) → cnt x left ≤ cnt x (startsOf w)
   pub same : listFault v w r i left (drop i (listsOf w r)) ≡ whole v w r
   pub rest : minusAll left (drop i (listsOf w r)) ≡ minusAll (startsOf w) (listsOf w r)
   pub bins : (x : ℕ) → b x + cntAll x (drop (74 - i) (drop i (listsOf w r))) ≡ binnedOf w r x
 
--- in list i, of the kind k, before the chunk c, after n chunks, of which p, of size q, is the last
+-- in list i, of the kind k, before the chunk c, after n chunks, of which p, of size q, is the last. left₀: the chunks not met when the list began
 pub record In (v : ℕ) (w r m : List ℕ) (k : ListKind) (i p q n c : ℕ) : Type 0 where
   pub left : List ℕ
   pub b : ℕ → ℕ
@@ -101,13 +109,18 @@ pub record In (v : ℕ) (w r m : List ℕ) (k : ListKind) (i p q n c : ℕ) : Ty
   pub rest : minusAll (minus left (chunksFrom f w c)) (drop (suc i) (listsOf w r)) ≡ minusAll (startsOf w) (listsOf w r)
   pub bins : (x : ℕ) → b x + binCnt k x (chunksFrom f w c) + cntAll x (drop (74 - suc i) (drop (suc i) (listsOf w r))) ≡ binnedOf w r x
   pub sized : (p ≡ none64 → ⊥) → q ≡ sizeAt w p
+  pub part : (x : ℕ) → cnt x left ≤ cnt x (startsOf w)
+  pub left₀ : List ℕ
+  pub few₀ : length left₀ < length w
+  pub part₀ : (x : ℕ) → cnt x left₀ ≤ cnt x (startsOf w)
+  pub begun : goodFrom v k w r left₀ none64 0 (listOf w r k) ≡ goodFrom v k w r left p n (chunksFrom f w c)
 
 pub lists-enter : (v : ℕ) (w r m : List ℕ) → Started w m → Out v w r m 0
 lists-enter v w r m s = record
-    { left = startsOf w; b = λ x. 0; marks = s .marks; few = s .few; same = refl; rest = refl; bins = λ x. omega arith }
+    { left = startsOf w; b = λ x. 0; marks = s .marks; few = s .few; part = λ x. omega arith; same = refl; rest = refl; bins = λ x. omega arith }
 
 list-enter : (v : ℕ) (w r m : List ℕ) (i q : ℕ) → i < 200 → Out v w r m i → In v w r m (kindAt i) i none64 q 0 (up (getD r (headWord (kindAt i)) 0))
-unfolding listFault listAt
+unfolding listFault listAt listOf
 list-enter v w r m i q h o =
     let e : drop i (listsOf w r) ≡ listAt w r i ∷ drop (suc i) (listsOf w r) = list-next w r i h in
     record {
@@ -121,6 +134,11 @@ list-enter v w r m i q h o =
       rest = sym (ap (minusAll (o .left)) e) ∙ o .rest;
       bins = λ x. omega (arith, o .bins x, ap (λ (ls : List (List ℕ)). cntAll x (drop (74 - i) ls)) e, bin-later x i (listAt w r i) (drop (suc i) (listsOf w r)));
       sized = λ n. absurd (n refl);
+      part = o .part;
+      left₀ = o .left;
+      few₀ = o .few;
+      part₀ = o .part;
+      begun = refl;
     }
 
 pub list-begin : (v : ℕ) (w r m : List ℕ) (i q : ℕ) (k : ListKind) (c : ℕ) → k ≡ kindAt i → c ≡ up (getD r (headWord k) 0) → i < 200 → Out v w r m i → In v w r m k i none64 q 0 c
@@ -141,20 +159,28 @@ resume-bad v w r k i left p n c l ls e =
     let g : goodFrom v k w r left p n (c ∷ l) ≡ false = ap (λ (z : Bool). both z (goodFrom v k w r (without c left) c (suc n) l)) e in
     rw (g, resume)
 
+good-more : (v : ℕ) (k : ListKind) (w r left : List ℕ) (p n c : ℕ) (l : List ℕ) → both (has? c left) (mayStand v k w r p n c) ≡ true
+    → goodFrom v k w r left p n (c ∷ l) ≡ goodFrom v k w r (without c left) c (suc n) l
+unfolding goodFrom
+good-more v k w r left p n c l e = ap (λ (z : Bool). both z (goodFrom v k w r (without c left) c (suc n) l)) e
+
 resume-more : (v : ℕ) (w r : List ℕ) (k : ListKind) (i : ℕ) (left : List ℕ) (p n c : ℕ) (l : List ℕ) (ls : List (List ℕ)) → both (has? c left) (mayStand v k w r p n c) ≡ true
     → resume v w r k i left p n (c ∷ l) ls ≡ resume v w r k i (without c left) c (suc n) l ls
-unfolding goodFrom
 resume-more v w r k i left p n c l ls e =
-    let g : goodFrom v k w r left p n (c ∷ l) ≡ goodFrom v k w r (without c left) c (suc n) l = ap (λ (z : Bool). both z (goodFrom v k w r (without c left) c (suc n) l)) e in
-    ap (λ (z : Bool). elim z [ true ↦ listFault v w r (suc i) (minus left (c ∷ l)) ls | false ↦ A.List k ]) g
+    ap (λ (z : Bool). elim (both z (skipsOk v k w (listOf w r k))) [ true ↦ listFault v w r (suc i) (minus left (c ∷ l)) ls | false ↦ A.List k ])
+    (good-more v k w r left p n c l e)
 
 end-false : (v : ℕ) (w r : List ℕ) (k : ListKind) (i : ℕ) (left : List ℕ) (p n : ℕ) (ls : List (List ℕ)) → mayEnd k r p n ≡ false → resume v w r k i left p n [] ls ≡ A.List k
 unfolding goodFrom
 end-false v w r k i left p n ls h = let g : goodFrom v k w r left p n [] ≡ false = h in rw (g, resume)
 
-end-true : (v : ℕ) (w r : List ℕ) (k : ListKind) (i : ℕ) (left : List ℕ) (p n : ℕ) (ls : List (List ℕ)) → mayEnd k r p n ≡ true → resume v w r k i left p n [] ls ≡ listFault v w r (suc i) left ls
+end-true : (v : ℕ) (w r : List ℕ) (k : ListKind) (i : ℕ) (left : List ℕ) (p n : ℕ) (ls : List (List ℕ)) (b : Bool) → mayEnd k r p n ≡ true → skipsOk v k w (listOf w r k) ≡ b
+    → resume v w r k i left p n [] ls ≡ elim b [ true ↦ listFault v w r (suc i) left ls | false ↦ A.List k ]
 unfolding goodFrom
-end-true v w r k i left p n ls h = let g : goodFrom v k w r left p n [] ≡ true = h in rw (g, resume)
+end-true v w r k i left p n ls b h s =
+    let g : goodFrom v k w r left p n [] ≡ true = h in
+    ap (λ (z : Bool). elim (both z (skipsOk v k w (listOf w r k))) [ true ↦ listFault v w r (suc i) left ls | false ↦ A.List k ]) g
+    ∙ ap (λ (z : Bool). elim z [ true ↦ listFault v w r (suc i) left ls | false ↦ A.List k ]) s
 
 module _ (v : ℕ) (w r m : List ℕ) (k : ListKind) (i p q n c : ℕ) (o : In v w r m k i p q n c) where
   list-bad : (m′ : List ℕ) → (c ≡ none64 → ⊥) → both (has? c (o .left)) (mayStand v k w r p n c) ≡ false → ListsDone v w r (A.List k) m′
@@ -182,21 +208,25 @@ module _ (v : ℕ) (w r m : List ℕ) (k : ListKind) (i p q n c : ℕ) (o : In v
 
   pub list-turn : (t u : Bool) (s : ℕ) → (c ≡ none64 → ⊥) → t ≡ unmet m c → t ≡ true → u ≡ mayStand v k w r p n c → u ≡ true → s ≡ sizeAt w c
       → In v w r (set m (c / 16) (markOf k)) k i c s (n + 1) (getD w (fwdWord c) 0)
-  list-turn t u s ne e z d y sz = go (o .f) (o .fuel) (o .same) (o .rest) (o .bins)
+  list-turn t u s ne e z d y sz = go (o .f) (o .fuel) (o .same) (o .rest) (o .bins) (o .begun)
     where
       tested : both (has? c (o .left)) (mayStand v k w r p n c) ≡ true
       tested = ap (λ (x : Bool). both x (mayStand v k w r p n c)) (has-true t e z) ∙ sym d ∙ y
 
+      has : 1 ≤ cnt c (o .left)
+      has = unmet-inside w m (o .left) (o .b) (o .marks) c (sym e ∙ z) .2
+
       g : length (o .left) ≡ suc (length (without c (o .left)))
-      g = without-length c (o .left) (unmet-inside w m (o .left) (o .b) (o .marks) c (sym e ∙ z) .2)
+      g = without-length c (o .left) has
 
       go : (f : ℕ) → length (o .left) < f
           → resume v w r k i (o .left) p n (chunksFrom f w c) (drop (suc i) (listsOf w r)) ≡ whole v w r
           → minusAll (minus (o .left) (chunksFrom f w c)) (drop (suc i) (listsOf w r)) ≡ minusAll (startsOf w) (listsOf w r)
           → ((x : ℕ) → o .b x + binCnt k x (chunksFrom f w c) + cntAll x (drop (74 - suc i) (drop (suc i) (listsOf w r))) ≡ binnedOf w r x)
+          → goodFrom v k w r (o .left₀) none64 0 (listOf w r k) ≡ goodFrom v k w r (o .left) p n (chunksFrom f w c)
           → In v w r (set m (c / 16) (markOf k)) k i c s (n + 1) (getD w (fwdWord c) 0)
-      go zero b a t u = absurd (not-suc-le-zero b)
-      go (suc f) b a t u =
+      go zero b a t u d = absurd (not-suc-le-zero b)
+      go (suc f) b a t u d =
           let h : chunksFrom (suc f) w c ≡ c ∷ chunksFrom f w (getD w (fwdWord c) 0) = chunks-more f w c ne in
           let n1 : suc n ≡ n + 1 = omega arith in
           record {
@@ -212,6 +242,12 @@ module _ (v : ℕ) (w r m : List ℕ) (k : ListKind) (i p q n c : ℕ) (o : In v
             rest = sym (ap (λ (l : List ℕ). minusAll (minus (o .left) l) (drop (suc i) (listsOf w r))) h) ∙ t;
             bins = λ x. omega (arith, u x, ap (λ (l : List ℕ). binCnt k x l) h, bin-more k x c (chunksFrom f w (getD w (fwdWord c) 0)));
             sized = λ _. sz;
+            part = λ x. omega (arith, o .part x, without-cnt c (o .left) has x);
+            left₀ = o .left₀;
+            few₀ = o .few₀;
+            part₀ = o .part₀;
+            begun = subst (λ (y : ℕ). goodFrom v k w r (o .left₀) none64 0 (listOf w r k) ≡ goodFrom v k w r (without c (o .left)) c y (chunksFrom f w (getD w (fwdWord c) 0))) n1
+                (d ∙ ap (goodFrom v k w r (o .left) p n) h ∙ good-more v k w r (o .left) p n c _ tested);
           }
 
   -- where the list ends
@@ -222,8 +258,23 @@ module _ (v : ℕ) (w r m : List ℕ) (k : ListKind) (i p q n c : ℕ) (o : In v
     marks = λ y. not-sound (A.List k) refl y;
   }
 
-  pub list-leave : (t : Bool) → c ≡ none64 → t ≡ mayEnd k r p n → t ≡ true → Out v w r m (i + 1)
-  list-leave t e g z =
+  -- a list that ends rightly: it can be walked; its skip links are wrong; they are right
+  pub list-walked : (t : Bool) → TilesOk w 0 (tilesOf w) → 8 * length w ≤ 262144 → c ≡ none64 → t ≡ mayEnd k r p n → t ≡ true → KindWalk k w r
+  unfolding goodFrom
+  list-walked t ok small e g z =
+      good-walk v k w r (o .left₀) ok small (o .part₀) (o .few₀) (o .begun ∙ ap (goodFrom v k w r (o .left) p n) (chunks-end (o .f) w c e) ∙ sym g ∙ z)
+
+  ended : (t u : Bool) → c ≡ none64 → t ≡ mayEnd k r p n → t ≡ true → u ≡ skipsOk v k w (listOf w r k)
+      → elim u [ true ↦ listFault v w r (suc i) (o .left) (drop (suc i) (listsOf w r)) | false ↦ A.List k ] ≡ whole v w r
+  ended t u e g z s =
+      sym (ap (λ (y : List ℕ). resume v w r k i (o .left) p n y (drop (suc i) (listsOf w r))) (chunks-end (o .f) w c e)
+      ∙ end-true v w r k i (o .left) p n (drop (suc i) (listsOf w r)) u (sym g ∙ z) (sym s)) ∙ o .same
+
+  pub list-unlinked : (t u : Bool) (m′ : List ℕ) → c ≡ none64 → t ≡ mayEnd k r p n → t ≡ true → u ≡ skipsOk v k w (listOf w r k) → u ≡ false → ListsDone v w r (A.List k) m′
+  list-unlinked t u m′ e g z s y = record { is = ended t false e g z (sym y ∙ s); marks = λ y. not-sound (A.List k) refl y }
+
+  pub list-leave : (t u : Bool) → c ≡ none64 → t ≡ mayEnd k r p n → t ≡ true → u ≡ skipsOk v k w (listOf w r k) → u ≡ true → Out v w r m (i + 1)
+  list-leave t u e g z s y =
       let i1 : suc i ≡ i + 1 = omega arith in
       let d : chunksFrom (o .f) w c ≡ [] = chunks-end (o .f) w c e in
       subst (λ (y : ℕ). Out v w r m y) i1 (record {
@@ -231,16 +282,18 @@ module _ (v : ℕ) (w r m : List ℕ) (k : ListKind) (i p q n c : ℕ) (o : In v
         b = o .b;
         marks = o .marks;
         few = omega (arith, o .few);
-        same = sym (ap (λ (y : List ℕ). resume v w r k i (o .left) p n y (drop (suc i) (listsOf w r))) d
-            ∙ end-true v w r k i (o .left) p n (drop (suc i) (listsOf w r)) (sym g ∙ z)) ∙ o .same;
+        part = o .part;
+        same = ended t true e g z (sym y ∙ s);
         rest = sym (ap (λ (y : List ℕ). minusAll (minus (o .left) y) (drop (suc i) (listsOf w r))) d) ∙ o .rest;
         bins = λ x. omega (arith, o .bins x, ap (λ (y : List ℕ). binCnt k x y) d, bin-none k x);
       })
 
 -- a list that is empty by its words is left as if its chunks had been gone through; so is a run of them
 list-empty : (v : ℕ) (w r m : List ℕ) (i : ℕ) → i < 200 → Empty r (kindAt i) → Out v w r m i → Out v w r m (i + 1)
+unfolding listOf
 list-empty v w r m i h e o =
-    list-leave v w r m (kindAt i) i none64 0 0 (up (getD r (headWord (kindAt i)) 0)) (list-enter v w r m i 0 h o) true (e .0) (sym (e .1)) refl
+    list-leave v w r m (kindAt i) i none64 0 0 (up (getD r (headWord (kindAt i)) 0)) (list-enter v w r m i 0 h o) true true (e .0) (sym (e .1)) refl
+    (sym (ap (skipsOk v (kindAt i) w) (chunks-end (length w) w (up (getD r (headWord (kindAt i)) 0)) (e .0)) ∙ skips-none v (kindAt i) w)) refl
 
 pub list-skip : (v : ℕ) (w r m : List ℕ) (i j : ℕ) → Skipped r i j → Out v w r m i → Out v w r m j
 list-skip v w r m i j s o = go (j - i) i (omega (arith, s .low)) s o

@@ -14,7 +14,7 @@ use Rattle.sizes.specs.Layout.{fwdWord}
 use Rattle.machine.specs.Lists.{both, hd, cnt, cntAll, has?, without, minus, tabulate}
 use Rattle.machine.specs.Count.{ind-same, cnt-here, cnt-there, without-cnt, without-length}
 use Rattle.machine.specs.View.{up, chunksFrom, kindAt, headWord, listAt}
-use Rattle.machine.specs.Audit.{mayStand, mayEnd, goodFrom, listFault}
+use Rattle.machine.specs.Audit.{mayStand, mayEnd, goodFrom, skipsOk, listFault}
 use Rattle.machine.specs.declared.ListKind.{ListKind}
 use Rattle.machine.specs.declared.Audited.the-variants as A
 use Rattle.sound.specs.Relation.{chain}
@@ -26,15 +26,15 @@ abbrev pub suits : ℕ → ListKind → List ℕ → List ℕ → ℕ → ℕ �
 suits v k w r p n [] = mayEnd k r p n ≡ true
 suits v k w r p n (c ∷ l) = (mayStand v k w r p n c ≡ true) × suits v k w r c (suc n) l
 
-record Listed (v : ℕ) (k : ListKind) (w r left : List ℕ) (p n c : ℕ) (l : List ℕ) : Type 0 where
-  head : c ≡ hd none64 l
-  links : chain w l
-  good : suits v k w r p n l
-  cnts : (x : ℕ) → cnt x (minus left l) + cnt x l ≡ cnt x left
-  len : length (minus left l) + length l ≡ length left
+pub record Listed (v : ℕ) (k : ListKind) (w r left : List ℕ) (p n c : ℕ) (l : List ℕ) : Type 0 where
+  pub head : c ≡ hd none64 l
+  pub links : chain w l
+  pub good : suits v k w r p n l
+  pub cnts : (x : ℕ) → cnt x (minus left l) + cnt x l ≡ cnt x left
+  pub len : length (minus left l) + length l ≡ length left
 
 -- ---- a good walk shows a list
-list-sound : (v f : ℕ) (k : ListKind) (w r left : List ℕ) (p n c : ℕ) → length left < f
+pub list-sound : (v f : ℕ) (k : ListKind) (w r left : List ℕ) (p n c : ℕ) → length left < f
     → goodFrom v k w r left p n (chunksFrom f w c) ≡ true → Listed v k w r left p n c (chunksFrom f w c)
 unfolding goodFrom
 list-sound v zero k w r left p n c b e = absurd (not-suc-le-zero b)
@@ -87,9 +87,9 @@ minus-cnt x left (c ∷ l) h =
     let i : 1 ≤ cnt c left = omega (arith, h c, ind-same c) in
     omega (arith, without-cnt c left i x, minus-cnt x (without c left) l (λ y. omega (arith, h y, without-cnt c left i y)))
 
--- ---- a list of the kind k: its head in the record, its links, its tests; list number i
+-- ---- a list of the kind k: its head in the record, its links, its tests, its skip links; list number i
 abbrev pub Suited : ℕ → ListKind → List ℕ → List ℕ → List ℕ → Type 0
-Suited v k w r l = (up (getD r (headWord k) 0) ≡ hd none64 l) × chain w l × suits v k w r none64 0 l
+Suited v k w r l = (up (getD r (headWord k) 0) ≡ hd none64 l) × chain w l × suits v k w r none64 0 l × (skipsOk v k w l ≡ true)
 
 abbrev pub Suit : ℕ → List ℕ → List ℕ → ℕ → List ℕ → Type 0
 Suit v w r i l = Suited v (kindAt i) w r l
@@ -121,17 +121,20 @@ unfolding listFault listAt
 lists-sound v zero i w r left b e = (tt, λ x. omega arith)
 lists-sound v (suc n) i w r left b e =
     let c : ℕ = up (getD r (headWord (kindAt i)) 0) in
-    let s = sound-if (goodFrom v (kindAt i) w r left none64 0 (chunksFrom (length w) w c)) _ (A.List (kindAt i)) refl e in
-    let l = list-sound v (length w) (kindAt i) w r left none64 0 c b (s .0) in
-    let t = lists-sound v n (suc i) w r (minus left (chunksFrom (length w) w c)) (omega (arith, l .len)) (s .1) in
-    (((l .head, l .links, l .good), t .0), λ x. omega (arith, t .1 x, l .cnts x))
+    let g : Bool = goodFrom v (kindAt i) w r left none64 0 (chunksFrom (length w) w c) in
+    let k : Bool = skipsOk v (kindAt i) w (chunksFrom (length w) w c) in
+    let s = sound-if (both g k) _ (A.List (kindAt i)) refl e in
+    let t = both-true g k (s .0) in
+    let l = list-sound v (length w) (kindAt i) w r left none64 0 c b (t .0) in
+    let u = lists-sound v n (suc i) w r (minus left (chunksFrom (length w) w c)) (omega (arith, l .len)) (s .1) in
+    (((l .head, l .links, l .good, t .1), u .0), λ x. omega (arith, u .1 x, l .cnts x))
 
 pub lists-complete : (v i : ℕ) (w r left : List ℕ) (ls : List (List ℕ)) → suitAll v w r i ls → ((x : ℕ) → cntAll x ls ≤ cnt x left) → listFault v w r i left ls ≡ A.Sound
 unfolding listFault
 lists-complete v i w r left [] s h = refl
 lists-complete v i w r left (l ∷ ls) s h =
-    rw (list-complete v (kindAt i) w r left none64 0 l (s .0 .2) (λ x. omega (arith, h x)), listFault)
-    (lists-complete v (suc i) w r (minus left l) ls (s .1) (λ x. omega (arith, h x, minus-cnt x left l (λ y. omega (arith, h y)))))
+    rw (list-complete v (kindAt i) w r left none64 0 l (s .0 .2) (λ x. omega (arith, h x)), listFault) (rw (s .0 .3)
+    (lists-complete v (suc i) w r (minus left l) ls (s .1) (λ x. omega (arith, h x, minus-cnt x left l (λ y. omega (arith, h y))))))
 
 -- a list that is short enough and within the arena is the one that is read
 pub lists-read : (v i : ℕ) (w r : List ℕ) (ls : List (List ℕ)) → suitAll v w r i ls → ((x : ℕ) → 1 ≤ cntAll x ls → x < 262144)

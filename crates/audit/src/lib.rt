@@ -1,6 +1,6 @@
 // The audit: sound, or the first fault of arena and record, in the order record, tiles, lists, flags. By the newest rules, or by those of a version that is
-// told: an older image is held against the rules of its own. Linear in the arena: each tile is read twice, each chunk of a list once. The walks over the
-// tiles stand in the crate audit_walks, the marks in call_look.rt.
+// told: an older image is held against the rules of its own. Linear in the arena: each tile is read twice, each chunk of a list once, and one of unsorted or
+// of a bin of large chunks once more, for its skip links. The walks over the tiles stand in the crate audit_walks, the marks in call_look.rt.
 // Assumes nothing.
 mod lists; // lists.rt: the nested loop over lists and chunks
 mod call_look; // call_look.rt: what a call finds before it writes

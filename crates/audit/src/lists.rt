@@ -1,5 +1,5 @@
 // Lists, in the order cache, fast, bins. A list is bad if it names an offset that is no chunk or is the top, a chunk met before, one of a size not its own,
-// a wrong back link or last, a wrong order, a count that is not its length, more than 7, or a wrong key. Assumes nothing.
+// a wrong back link or last, a wrong order, a count that is not its length, more than 7, a wrong key, or wrong skip links. Assumes nothing.
 ghost use mathlib.Core.Path.{_≡_};
 ghost use lib.ListN.{length};
 ghost use Rattle.le.specs.Arena.{arenaWords};
@@ -52,6 +52,10 @@ pub fn list_fault(a: &[u8], r: &[u32], m: &mut [u8], v: u32) -> Audited
             c = fwd_at(a, at);
         }
         if !audit_lists::may_end(r, k, p, n) {
+            fault = Audited::List(k);
+            break 'lists;
+        }
+        if !audit_lists::skips_ok(a, r, k, v) {
             fault = Audited::List(k);
             break 'lists;
         }

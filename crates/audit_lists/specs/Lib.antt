@@ -6,3 +6,5 @@ pub mod Stand
 pub mod StandWays
 pub mod Listed
 pub mod ByKind
+pub mod Linked
+pub mod SkipWays

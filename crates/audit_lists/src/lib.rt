@@ -1,13 +1,15 @@
 // What the audit asks of one list, each against its definition in the machine: its kind, its mark, its head and end in the record, the sizes it owns,
-// the key of its chunks, whether a chunk was met. The loop over them stands in the crate audit. Assumes nothing.
+// the key of its chunks, their skip links, whether a chunk was met. The loop over them stands in the crate audit. Assumes nothing.
 mod owns; // owns.rt: which sizes a list owns
 mod asks; // asks.rt: which key a cached chunk is asked for
 mod stands; // stands.rt: whether a chunk may stand in a list
+mod skips; // skips.rt: whether its chunks' skip links are right
 
 pub use asks::Asked;
 pub use asks::asked_by;
 pub use owns::Owned;
 pub use owns::owned_by;
+pub use skips::skips_ok;
 pub use stands::may_stand;
 ghost use mathlib.Core.Path.{_≡_};
 ghost use Prim.Native.Nat.{_<_};

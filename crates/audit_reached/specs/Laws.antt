@@ -10,7 +10,7 @@ use Rattle.sizes.specs.Limits.{none64}
 use Rattle.machine.specs.Lists.{both, cnt, cntAll, has?, without, minus}
 use Rattle.machine.specs.Count.{without-cnt}
 use Rattle.machine.specs.View.{kindAt, tilesOf, view}
-use Rattle.machine.specs.Audit.{mayStand, goodFrom, listFault, lists}
+use Rattle.machine.specs.Audit.{mayStand, goodFrom, skipsOk, listFault, lists}
 use Rattle.machine.specs.declared.ListKind.{ListKind}
 use Rattle.machine.specs.declared.Audited.the-variants as A
 use Rattle.sound.specs.Release.{both-true}
@@ -47,8 +47,9 @@ sound-from : (v : ℕ) (w r : List ℕ) (i : ℕ) (left : List ℕ) (ls : List (
 unfolding listFault reachedFrom
 sound-from v w r i left [] e = refl
 sound-from v w r i left (l ∷ ls) e =
-    let s = sound-if (goodFrom v (kindAt i) w r left none64 0 l) _ (A.List (kindAt i)) refl e in
-    ap (λ (g : List ℕ). g ∷ reachedFrom v w r (suc i) (minus left g) ls) (good-whole v (kindAt i) w r left none64 0 l (s .0))
+    let s = sound-if (both (goodFrom v (kindAt i) w r left none64 0 l) (skipsOk v (kindAt i) w l)) _ (A.List (kindAt i)) refl e in
+    let g = both-true (goodFrom v (kindAt i) w r left none64 0 l) (skipsOk v (kindAt i) w l) (s .0) .0 in
+    ap (λ (g : List ℕ). g ∷ reachedFrom v w r (suc i) (minus left g) ls) (good-whole v (kindAt i) w r left none64 0 l g)
     ∙ ap (λ (gs : List (List ℕ)). l ∷ gs) (sound-from v w r (suc i) (minus left l) ls (s .1))
 
 pub sound-reached : (v : ℕ) (w r : List ℕ) → listFault v w r 0 (startsOf w) (listsOf w r) ≡ A.Sound → reachedOf v w r ≡ listsOf w r

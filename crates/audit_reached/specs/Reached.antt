@@ -1,5 +1,5 @@
 -- Each list up to its first bad chunk, in the audit's order and by its rules of version v: no chunk, the top, one that was met before, one that may not stand
--- there. A wrong count or last condemns no chunk. Definitions only.
+-- there. A wrong count, last or skip link condemns no chunk. Definitions only.
 use mathlib.Core.Path.{_≡_}
 use mathlib.Core.List.{List, [], _∷_}
 use mathlib.Core.Bool.{true, false}

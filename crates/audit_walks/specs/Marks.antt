@@ -54,8 +54,9 @@ pub record Marks (w m left : List ℕ) (b : ℕ → ℕ) : Type 0 where
 abbrev pub startsOf : List ℕ → List ℕ
 startsOf w = startsFrom 0 (tilesOf w)
 
--- every chunk but the top is marked as one that no list had yet
+-- the tiles are good, and every chunk but the top is marked as one that no list had yet
 pub record Started (w m : List ℕ) : Type 0 where
+  pub tiles : TilesOk w 0 (tilesOf w)
   pub marks : Marks w m (startsOf w) (λ x. 0)
   pub few : length (startsOf w) < length w
 

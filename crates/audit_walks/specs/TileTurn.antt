@@ -139,6 +139,7 @@ tile-sound w m top o i e l z =
     record {
       is = s;
       marks = λ _. record {
+        tiles = k;
         marks = record {
           s = λ x. 0;
           is = λ x x16. omega (arith, i .marks x x16, ap (λ (y : List Tile). cnt x (startsFrom o y)) n);

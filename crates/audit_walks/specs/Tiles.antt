@@ -1,8 +1,8 @@
 -- Tiles: what words say of tiles without the top, and that the audit finds no tile fault exactly then, in the tiles that are read. By induction on the tiles,
 -- one tile at a time. Assumes nothing.
-use mathlib.Core.Path.{_≡_, refl, sym, ap}
+use mathlib.Core.Path.{_≡_, refl, sym, ap, _∙_}
 use mathlib.Core.List.{List, [], _∷_}
-use mathlib.Core.Logic.{inr}
+use mathlib.Core.Logic.{_⊎_, inl, inr, ⊎-elim}
 use mathlib.Core.Bool.{Bool, true, false}
 use Prim.Native.Nat.{ℕ, zero, suc, _+_, _*_, _%_, _≤_, _<_}
 use native.Mathlib.Nat.{le-of-suc-le-suc, not-suc-le-zero}
@@ -12,13 +12,13 @@ use lib.ListN.{length, getD}
 use borrow.Author.Tests.{ltb-true, leb-true, eqb-true, eqb-false, lt-ltb, le-ltb, le-leb, eq-eqb, ne-eqb}
 use Rattle.sizes.specs.Layout.{prevWord, sizeWord}
 use Rattle.machine.specs.Lists.{both, cnt}
-use Rattle.machine.specs.Count.{ind-other}
+use Rattle.machine.specs.Count.{eq?, ind-other}
 use Rattle.machine.specs.Heap.{Tile, tile, endFrom, startsFrom, since, hdSize}
 use Rattle.machine.specs.View.{sizeAt, lowAt, tileAt, tilesFrom}
 use Rattle.machine.specs.Audit.{tileOk, tileFault}
 use Rattle.machine.specs.declared.Audited.the-variants as A
 use Rattle.sound.specs.Relation.{tiled, tilesAt}
-use Rattle.sound.specs.Tiles.{end-le, none-out, starts-length}
+use Rattle.sound.specs.Tiles.{end-le, none-out, starts-length, Start, start}
 use Rattle.sound.specs.Release.{both-true}
 use Rattle.audit_walks.specs.Tests.{sound-if}
 
@@ -147,3 +147,30 @@ size-at w o (t ∷ ts) x f k m = go (λ h. size-at w (o + t .size) ts x (f .3) (
         → (b : Bool) → eqb o x ≡ b → sizeAt w x ≡ hdSize (elim b [ true ↦ t ∷ ts | false ↦ since (o + t .size) x ts ])
     go r true q = rw (sym (eqb-true o x q)) (one-tile w o (t .size) (t .p) (f .0) (f .2) (k .0) .0)
     go r false q = r (omega (arith, ind-other x o (λ z. eqb-false o x q (sym z))))
+
+-- ---- where chunks lie, each as long as the words say: within the tiles, and apart
+pub chunk-lies : (w : List ℕ) (o : ℕ) (ts : List Tile) (x : ℕ) → tiled ts → tilesAt w o ts → 1 ≤ cnt x (startsFrom o ts)
+    → (32 ≤ sizeAt w x) × (x + sizeAt w x ≤ endFrom o ts)
+chunk-lies w o [] x f k m = absurd (not-suc-le-zero m)
+chunk-lies w o (t ∷ ts) x f k m =
+    let e : sizeAt w o ≡ t .size = one-tile w o (t .size) (t .p) (f .0) (f .2) (k .0) .0 in
+    ⊎-elim
+    (λ q. rw q (omega (arith, e, f .1), omega (arith, e, end-le (o + t .size) ts)))
+    (λ q. chunk-lies w (o + t .size) ts x (f .3) (k .2) (omega (arith, ind-other x o q)))
+    (eq? x o)
+
+pub chunks-lie-apart : (w : List ℕ) (o : ℕ) (ts : List Tile) (x y : ℕ) → tiled ts → tilesAt w o ts → 1 ≤ cnt x (startsFrom o ts) → 1 ≤ cnt y (startsFrom o ts)
+    → (x ≡ y → ⊥) → (x + sizeAt w x ≤ y) ⊎ (y + sizeAt w y ≤ x)
+chunks-lie-apart w o [] x y f k mx my n = absurd (not-suc-le-zero mx)
+chunks-lie-apart w o (t ∷ ts) x y f k mx my n =
+    let e : sizeAt w o ≡ t .size = one-tile w o (t .size) (t .p) (f .0) (f .2) (k .0) .0 in
+    let past : (z u : ℕ) → z ≡ o → 1 ≤ cnt u (startsFrom (o + t .size) ts) → z + sizeAt w z ≤ u =
+    λ z u q m. let s : Start ts (o + t .size) u = start ts (o + t .size) u (f .3) m in rw q (omega (arith, e, s .low)) in
+    let later : (z : ℕ) → 1 ≤ cnt z (startsFrom o (t ∷ ts)) → (z ≡ o → ⊥) → 1 ≤ cnt z (startsFrom (o + t .size) ts) = λ z m q. omega (arith, m, ind-other z o q) in
+    ⊎-elim
+    (λ q. inl (past x y q (later y my (λ z. n (q ∙ sym z)))))
+    (λ q. ⊎-elim
+    (λ p. inr (past y x p (later x mx q)))
+    (λ p. chunks-lie-apart w (o + t .size) ts x y (f .3) (k .2) (later x mx q) (later y my p) n)
+    (eq? y o))
+    (eq? x o)

@@ -34,8 +34,8 @@ use Rattle.machine.specs.declared.Answer.the-variants.{Granted, Refused}
 use Rattle.sound.specs.Relation.{Shape, Mem, Loose, Good, Sound}
 use Rattle.sound.specs.Tiles
 use Rattle.sound.specs.Frames.{Starts, starts-all}
-use Rattle.sound.specs.Edits.{tiled-tiles, size-32}
-use Rattle.sound.specs.Spares.{clear-of}
+use Rattle.sound.specs.Apart.{clear-of, tiled-tiles}
+use Rattle.sound.specs.Edits.{size-32}
 use Rattle.sound.specs.Moves.{answerOf}
 use Rattle.sound.specs.Ends.{Ends}
 use Rattle.sound.specs.Keeps.{grant-ends}

@@ -33,8 +33,8 @@ use Rattle.machine.specs.declared.Audited.the-variants as A
 use Rattle.sound.specs.Relation.{Mem, Loose, Good, Sound}
 use Rattle.sound.specs.Tiles.{start}
 use Rattle.sound.specs.Frames.{starts-all, apply-length}
-use Rattle.sound.specs.Edits.{tiled-tiles, size-32}
-use Rattle.sound.specs.Spares.{clear-of}
+use Rattle.sound.specs.Apart.{clear-of, tiled-tiles}
+use Rattle.sound.specs.Edits.{size-32}
 use Rattle.sound.specs.Moves.{answerOf, nil, any, Moved}
 use Rattle.sound.specs.Ends.{Ends}
 use Rattle.sound.specs.Opened.{opened-ends}

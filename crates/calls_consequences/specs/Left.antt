@@ -23,7 +23,8 @@ use Rattle.machine.specs.declared.Answer.{Answer}
 use Rattle.sound.specs.Relation.{Loose, Good, Sound}
 use Rattle.sound.specs.Tiles.{start}
 use Rattle.sound.specs.Frames.{apply-length}
-use Rattle.sound.specs.Edits.{tiled-tiles, size-16}
+use Rattle.sound.specs.Apart.{tiled-tiles}
+use Rattle.sound.specs.Edits.{size-16}
 use Rattle.sound.specs.RecordOf.{record-words}
 use Rattle.sound.specs.Ends.{Ends}
 use Rattle.sound.specs.Live.{Tame, tame-words, live-loose, loose-live}

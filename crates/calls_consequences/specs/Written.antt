@@ -1,7 +1,7 @@
 -- A sound heap survives its bytes: its words and its record, written as bytes and read again, are those of the same heap. Every word that the relation
 -- reads is an offset, a size or none, and so tiled its width; a word that it does not read may be cut. Assumes nothing.
 use mathlib.Core.Path.{_≡_, ap, _∙_}
-use mathlib.Core.List.{List, [], _∷_}
+use mathlib.Core.List.{List, [], _∷_, _++_}
 use mathlib.Core.Logic.{⊎-elim}
 use Prim.Native.Nat.{ℕ, _+_, _*_, _≤_, _/_, _%_, _^_, _<_}
 use native.Mathlib.Omega.{arith}
@@ -13,12 +13,14 @@ use Rattle.sizes.specs.Layout.{prevWord, sizeWord, fwdWord, backWord, lengthWor
 use Rattle.machine.specs.Lists.{hd, lst, cnt}
 use Rattle.machine.specs.Count.{ind-same, cnt-here, cnt-there, cnt-le-all}
 use Rattle.machine.specs.Heap.{Tile, tile, Heap, topSize, stack, cache, fast, fastAt, bin, binned, endFrom, topOf, starts, sizeOf, recordOf}
+use Rattle.machine.specs.Writes.{Write, who, field, value}
+use Rattle.machine.specs.Skips.{ringFrom, ring, putSkips, allPut, skips}
 use Rattle.machine.specs.Calls.{heapIn, wordsOf}
-use Rattle.sound.specs.Relation.{all, tiled, tilesAt, chain, links, Mem, flags, Good, Sound}
+use Rattle.sound.specs.Relation.{all, tiled, tilesAt, chain, links, stand, Mem, flags, Good, Sound}
 use Rattle.sound.specs.Tiles.{tiled-split, end-le, start}
 use Rattle.sound.specs.Frames.{end-all, starts-all}
-use Rattle.sound.specs.Edits.{tiled-tiles}
-use Rattle.sound.specs.Spares.{clear-of}
+use Rattle.sound.specs.Apart.{clear-of, tiled-tiles}
+use Rattle.sound.specs.Rings.{ring-case, put-case, kind-case, SkipW, skips-w}
 use Rattle.sound.specs.RecordOf.{record-words, record-ext}
 use Rattle.audit.specs.Exact.{audit-read}
 use Rattle.calls_consequences.specs.Bytes.{cut, getD-cut, length-cut, words-cut, arenaWords-cut}
@@ -64,6 +66,43 @@ links-cut w p (x ∷ l) e m k =
       links-cut w x l (omega (arith, m x (cnt-here x l))) n (k .2),
     )
 
+-- skip links lead to chunks, or are all ones
+abbrev SmallW : List Write → Type 0
+SmallW [] = Unit {0}
+SmallW (e ∷ ws) = ((w : List ℕ) → value e w ≤ none64) × SmallW ws
+
+small-append : (a b : List Write) → SmallW a → SmallW b → SmallW (a ++ b)
+small-append [] b j k = k
+small-append (e ∷ a) b j k = (j .0, small-append a b (j .1) k)
+
+ringFrom-small : (sz : ℕ → ℕ) (f q : ℕ) (l : List ℕ) → f ≤ none64 → q ≤ none64 → ((x : ℕ) → 1 ≤ cnt x l → x ≤ 262144) → SmallW (ringFrom sz f q l)
+ringFrom-small sz f q [] bf bq m = ((λ w. bf), ((λ w. bq), tt))
+ringFrom-small sz f q (c ∷ l) bf bq m =
+    let n : (y : ℕ) → 1 ≤ cnt y l → y ≤ 262144 = λ y i. m y (cnt-there y c l i) in
+    let bc : c ≤ none64 = omega (arith, m c (cnt-here c l)) in
+    ring-case SmallW sz f q c l
+    (λ e. ((λ w. omega arith), ((λ w. omega arith), ringFrom-small sz f q l bf bq n)))
+    (λ e. ((λ w. bc), ((λ w. bq), ringFrom-small sz f c l bf bc n)))
+
+ring-small : (sz : ℕ → ℕ) (l : List ℕ) → ((x : ℕ) → 1 ≤ cnt x l → x ≤ 262144) → SmallW (ring sz l)
+ring-small sz [] m = tt
+ring-small sz (c ∷ l) m =
+    let bc : c ≤ none64 = omega (arith, m c (cnt-here c l)) in
+    ringFrom-small sz c c l bc bc (λ y i. m y (cnt-there y c l i))
+
+allPut-small : (sz : ℕ → ℕ) (l : List ℕ) → SmallW (allPut sz l)
+allPut-small sz [] = tt
+allPut-small sz (c ∷ l) =
+    small-append (putSkips sz c) (allPut sz l) (put-case SmallW sz c tt (λ e. ((λ w. omega arith), ((λ w. omega arith), tt)))) (allPut-small sz l)
+
+skips-small : (j : ℕ) (sz : ℕ → ℕ) (l : List ℕ) → ((x : ℕ) → 1 ≤ cnt x l → x ≤ 262144) → SmallW (skips j sz l)
+skips-small j sz l m = kind-case SmallW j (allPut sz l) (ring sz l) (λ z. ring-small sz l m) (λ z. allPut-small sz l) tt
+
+stand-cut : (sz : ℕ → ℕ) (L : List ℕ) (ws : List Write) (w : List ℕ) → SkipW sz L ws → SmallW ws → stand ws w → stand ws (cut 8 w)
+stand-cut sz L [] w s b k = tt
+stand-cut sz L (e ∷ ws) w s b k =
+    (kept8 w (who e / 8 + field e) (value e w) (k .0) (b .0 w) ∙ s .3 w (cut 8 w), stand-cut sz L ws w (s .4) (b .1) (k .1))
+
 module _ (h : Heap) (g : Good h) where
   pub start-most : (x : ℕ) → 1 ≤ cnt x (starts h) → x + 32 ≤ topOf h
   start-most x m = start (h .tiles) 0 x (tiled-tiles h (g .shape)) m .high
@@ -93,6 +132,8 @@ module _ (h : Heap) (g : Good h) where
     blinks = λ j. links-cut w none64 (bin h j) (omega arith) (bin-most j) (m .blinks j);
     keys = λ z k x p i. kept8 w (keyWord x) (h .key) (m .keys z k x p i) (omega (arith, m .key64));
     key64 = m .key64;
+    skipped = λ z j. stand-cut (λ x. sizeOf h x) (bin h j) (skips j (λ x. sizeOf h x) (bin h j)) w
+        (skips-w j (λ x. sizeOf h x) (bin h j) (λ y x m. g .shape .roomy j x y m)) (skips-small j (λ x. sizeOf h x) (bin h j) (bin-most j)) (m .skipped z j);
   }
 
   -- ---- the record's words

@@ -13,9 +13,9 @@ ghost use mathlib.Core.Path.{_≡_};
 ghost use Prim.Native.Nat.{_+_, _*_, _/_, _%_, _≤_, _<_, _^_};
 ghost use lib.ListN.{length, getD};
 ghost use Rattle.le.specs.Arena.{arenaWords};
-ghost use Rattle.sizes.specs.Layout.{prevWord, sizeWord, fwdWord, backWord, keyWord};
+ghost use Rattle.sizes.specs.Layout.{prevWord, sizeWord, fwdWord, backWord, keyWord, skipFwdWord, skipBackWord};
 ghost use Rattle.sizes.specs.SizeWord.{bit};
-ghost use Rattle.machine.specs.Writes.{size, note, fwd, back, key, copy, put};
+ghost use Rattle.machine.specs.Writes.{size, note, fwd, back, key, skipFwd, skipBack, copy, put};
 ghost use Rattle.machine.specs.View.{sizeAt};
 
 // A link of the arena: a chunk's offset, or NONE64 for the end.
@@ -66,6 +66,21 @@ pub fn key_at(a: &[u8], c: Chunk) -> u64
     le::word(a, (c.0 + 24) as usize)
 }
 
+// The skip links of a chunk that has room for them.
+pub fn skip_fwd_at(a: &[u8], c: Chunk) -> Link
+    requires { ⌜ (c .0 % 8 ≡ 0) × (c .0 + 40 ≤ length (now a)) ⌝ }
+    ensures { λ r. ⌜ r .0 ≡ getD (arenaWords (now (a .entry))) (skipFwdWord (c .0)) 0 ⌝ }
+{
+    Link(le::word(a, (c.0 + 32) as usize))
+}
+
+pub fn skip_back_at(a: &[u8], c: Chunk) -> Link
+    requires { ⌜ (c .0 % 8 ≡ 0) × (c .0 + 48 ≤ length (now a)) ⌝ }
+    ensures { λ r. ⌜ r .0 ≡ getD (arenaWords (now (a .entry))) (skipBackWord (c .0)) 0 ⌝ }
+{
+    Link(le::word(a, (c.0 + 40) as usize))
+}
+
 // The usable word i of c; the last is the previous size that is noted behind c.
 pub fn usable_word_at(a: &[u8], c: Chunk, i: u64) -> u64
     requires { ⌜ (c .0 % 8 ≡ 0) × (c .0 + 24 + 8 * i ≤ length (now a)) ⌝ }
@@ -109,6 +124,20 @@ pub fn set_key(a: &mut [u8], c: Chunk, q: u64)
     ensures { λ _. ⌜ arenaWords (now (a .exit)) ≡ put (key (c .0) q) (arenaWords (now (a .entry))) ⌝ }
 {
     le::set_word(a, (c.0 + 24) as usize, q);
+}
+
+pub fn set_skip_fwd(a: &mut [u8], c: Chunk, x: Link)
+    requires { ⌜ (c .0 % 8 ≡ 0) × (c .0 + 40 ≤ length (now a)) ⌝ }
+    ensures { λ _. ⌜ arenaWords (now (a .exit)) ≡ put (skipFwd (c .0) (x .0)) (arenaWords (now (a .entry))) ⌝ }
+{
+    le::set_word(a, (c.0 + 32) as usize, x.0);
+}
+
+pub fn set_skip_back(a: &mut [u8], c: Chunk, x: Link)
+    requires { ⌜ (c .0 % 8 ≡ 0) × (c .0 + 48 ≤ length (now a)) ⌝ }
+    ensures { λ _. ⌜ arenaWords (now (a .exit)) ≡ put (skipBack (c .0) (x .0)) (arenaWords (now (a .entry))) ⌝ }
+{
+    le::set_word(a, (c.0 + 40) as usize, x.0);
 }
 
 // The usable word i of d becomes that of c.

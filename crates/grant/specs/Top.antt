@@ -17,7 +17,8 @@ use Rattle.machine.specs.Grant.{step9}
 use Rattle.machine.specs.declared.{Got.Got, Got.the-variants.At, Got.the-variants.Nothing}
 use Rattle.sound.specs.Relation.{Good}
 use Rattle.sound.specs.Tiles.{tiled-split, end-even}
-use Rattle.sound.specs.Edits.{snoc-end, tiled-tiles}
+use Rattle.sound.specs.Apart.{tiled-tiles}
+use Rattle.sound.specs.Edits.{snoc-end}
 use Rattle.sound.specs.RecordOf.{record-withTiles}
 use Rattle.primitives.specs.Follow.{Ok, Has, Gave, Does}
 use Rattle.primitives.specs.FollowLaws.{gave-by, gave-none, ok-len, ok-top}

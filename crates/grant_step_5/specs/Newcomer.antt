@@ -24,6 +24,7 @@ use Rattle.sound.specs.Sort.{front-behind}
 use Rattle.primitives.specs.Follow.{Ok, Gave, Does}
 use Rattle.primitives.specs.FollowLaws.{gave-by}
 use Rattle.primitives.specs.Places.{Gap}
+use Rattle.primitives.specs.Linked.{Fits}
 use Rattle.primitives.specs.Chunks.{Chunk, Chunks, Inside, in-bytes, list-short, walk-list}
 use Rattle.primitives.specs.Sizes.{chunk-says}
 use Rattle.primitives.specs.Bins.{ok-bin, first-gap, hd-nil}
@@ -191,7 +192,7 @@ module _ (h : Heap) (w r : List ℕ) (c z j : ℕ) (v q : List ℕ) (o : Ok h w 
       gave-by (rw (lt-ltb (sizeOf h c) large (omega (arith, sz)), sortIn) (ap (λ (j : ℕ). putFirst j c h) own-bin)) (d .does h o lo)
 
   pub sort-large-gave : 1024 ≤ z → (p n : ℕ) → Goes j z p n w r
-      → ((h : Heap) (xs ys : List ℕ) → Ok h w r → Loose h c → Gap h j xs ys p n → Gave (Unit {0}) (linkIn j c xs ys h) tt w v q)
+      → ((h : Heap) (xs ys : List ℕ) → Ok h w r → Loose h c → Gap h j xs ys p n → Fits h j c → Gave (Unit {0}) (linkIn j c xs ys h) tt w v q)
       → Gave (Unit {0}) (sortIn c h) tt w v q
   unfolding sortIn
   sort-large-gave l p n g d =
@@ -199,4 +200,4 @@ module _ (h : Heap) (w r : List ℕ) (c z j : ℕ) (v q : List ℕ) (o : Ok h w 
       (rw (le-ltb (sizeOf h c) large (omega (arith, sz)), sortIn)
       (ap (λ (j : ℕ). linkIn j c (front (λ x. sizeOf h x) (sizeOf h c) (bin h j)) (behind (λ x. sizeOf h x) (sizeOf h c) (bin h j)) h) own-bin
       ∙ ap (λ (s : ℕ). linkIn j c (front (λ x. sizeOf h x) s (bin h j)) (behind (λ x. sizeOf h x) s (bin h j)) h) sz))
-      (d h (front (λ x. sizeOf h x) z (bin h j)) (behind (λ x. sizeOf h x) z (bin h j)) o lo (g h o))
+      (d h (front (λ x. sizeOf h x) z (bin h j)) (behind (λ x. sizeOf h x) z (bin h j)) o lo (g h o) (λ y. omega (arith, sz)))

@@ -23,7 +23,7 @@ use Rattle.machine.specs.declared.Turn.the-variants as T
 use Rattle.sound.specs.Relation.{Loose, Good}
 use Rattle.sound.specs.Tiles.{starts-once}
 use Rattle.sound.specs.Frames.{starts-all}
-use Rattle.sound.specs.Edits.{tiled-tiles}
+use Rattle.sound.specs.Apart.{tiled-tiles}
 use Rattle.sound.specs.Lists.{lst-in, unlink-shape, unlink-mem}
 use Rattle.sound.specs.Take.{takeLast-leaves}
 use Rattle.sound.specs.Release.{both-true}

@@ -22,10 +22,11 @@ use Rattle.machine.specs.Grant.{split, carve, step8}
 use Rattle.machine.specs.View.{sizeAt}
 use Rattle.machine.specs.declared.{Got.Got, Got.the-variants.At}
 use Rattle.sound.specs.Relation.{tiled, Mem, Shape, Loose, Good}
-use Rattle.sound.specs.Tiles.{tiled-split, end-append, starts-append, none-out, Place, place, zero-or, lt-or-le}
+use Rattle.sound.specs.Tiles.{tiled-split, end-append, starts-append, starts-once, none-out, Place, place, zero-or, lt-or-le}
 use Rattle.sound.specs.Frames.{starts-all}
+use Rattle.sound.specs.Apart.{size-at, tiled-tiles}
 use Rattle.sound.specs.Lists.{unlink-shape, unlink-loose, unlink-mem}
-use Rattle.sound.specs.Edits.{size-at, Kept, tiled-tiles, note-is, note-kept, cut-is, cut-kept, size-place, size-16}
+use Rattle.sound.specs.Edits.{Kept, note-is, note-kept, cut-is, cut-kept, size-place, size-16}
 use Rattle.sound.specs.Carve.{take-out, split-is}
 use Rattle.sound.specs.RecordOf.{record-withRemainder, record-tiles}
 use Rattle.primitives.specs.Follow.{Ok, Has, Gave, Does}
@@ -88,8 +89,9 @@ pub record Cut (h : Heap) (w r : List ℕ) (c z b : ℕ) : Type 0 where
   pub ok : Ok heap (put (note (c + z) (z - b)) (put (size (c + b) (z - b) 1) (put (size c b 1) w))) r
   pub loose : Loose heap (c + b)
 
-cut-at : (h : Heap) (w r : List ℕ) (a l : List Tile) (t u : Tile) (b : ℕ) → Ok h w r → h .tiles ≡ a ++ t ∷ u ∷ l → b % 16 ≡ 0 → 32 ≤ b → b + 32 ≤ t .size → Cut h w r (endFrom 0 a) (t .size) b
-cut-at h w r a l t u b o e b16 b32 bt =
+cut-at : (h : Heap) (w r : List ℕ) (a l : List Tile) (t u : Tile) (b : ℕ) → Ok h w r → h .tiles ≡ a ++ t ∷ u ∷ l → total (endFrom 0 a) h ≡ 0
+    → b % 16 ≡ 0 → 32 ≤ b → b + 32 ≤ t .size → Cut h w r (endFrom 0 a) (t .size) b
+cut-at h w r a l t u b o e lo b16 b32 bt =
     let s = o .shape in
     let c : ℕ = endFrom 0 a in
     let z : ℕ = t .size - b in
@@ -100,7 +102,7 @@ cut-at h w r a l t u b o e b16 b32 bt =
     let ts₁ : List Tile = a ++ A₁ ∷ B₁ ∷ u ∷ l in
     let h₁ : Heap = withTiles ts₁ h in
     let ws : List Write = size c b 1 ∷ size (c + b) z 1 ∷ [] in
-    let K₁ : Kept h ts₁ w ws = cut-kept h w a (u ∷ l) t e s b b16 b32 bt (o .mem) in
+    let K₁ : Kept h ts₁ w ws = cut-kept h w a (u ∷ l) t e s b b16 b32 bt (o .mem) lo in
     let a₂ : List Tile = a ++ A₁ ∷ B₁ ∷ [] in
     let e₂ : ts₁ ≡ a₂ ++ u ∷ l = sym (append-assoc a (A₁ ∷ B₁ ∷ []) (u ∷ l)) in
     let x : ℕ = endFrom 0 a₂ in
@@ -138,8 +140,9 @@ cut-at h w r a l t u b o e b16 b32 bt =
 pub cut : (h : Heap) (w r : List ℕ) (c z b : ℕ) → Ok h w r → Taken h c z → b % 16 ≡ 0 → 32 ≤ b → b + 32 ≤ z → Cut h w r c z b
 cut h w r c z b o T b16 b32 bz =
     let A = around h c z (o .shape) T in
+    let lo : total c h ≡ 0 = omega (arith, T .loose, starts-once (h .tiles) 0 c (tiled-tiles h (o .shape))) in
     subst (λ (c : ℕ). Cut h w r c z b) (sym (A .at)) (subst (λ (z : ℕ). Cut h w r (endFrom 0 (A .a)) z b) (sym (A .whole))
-    (cut-at h w r (A .a) (A .s) (A .t) (A .u) b o (A .tiles) b16 b32 (omega (arith, A .whole))))
+    (cut-at h w r (A .a) (A .s) (A .t) (A .u) b o (A .tiles) (subst (λ (x : ℕ). total x h ≡ 0) (A .at) lo) b16 b32 (omega (arith, A .whole))))
 
 -- ---- split
 module _ (h : Heap) (w r : List ℕ) (c z b : ℕ) (o : Ok h w r) (T : Taken h c z) (b16 : b % 16 ≡ 0) (b32 : 32 ≤ b) (bz : b + 32 ≤ z) where

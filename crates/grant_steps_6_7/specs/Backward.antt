@@ -16,8 +16,8 @@ use Rattle.machine.specs.View.{sizeAt}
 use Rattle.sound.specs.Relation.{all, links, Mem, Shape}
 use Rattle.sound.specs.Frames.{end-all}
 use Rattle.sound.specs.Tiles.{end-append, starts-length}
+use Rattle.sound.specs.Apart.{tiled-tiles}
 use Rattle.sound.specs.Lists.{links-split}
-use Rattle.sound.specs.Edits.{tiled-tiles}
 use Rattle.primitives.specs.Chunks.{Chunk, bin-chunk}
 use Rattle.primitives.specs.Sizes.{chunk-says}
 use Rattle.grant_steps_6_7.specs.Finds.{backFrom, left}

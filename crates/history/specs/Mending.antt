@@ -19,8 +19,8 @@ use Rattle.machine.specs.Calls.{heapIn}
 use Rattle.sound.specs.Relation.{all, tiled, flags, tilesAt, Loose}
 use Rattle.sound.specs.Tiles.{lt-or-le, zero-or, tiled-split, end-even, starts-append, starts-once, tiles-split}
 use Rattle.sound.specs.Frames.{starts-all}
-use Rattle.sound.specs.Edits.{size-at, snoc-end, snoc-tiles, tiled-tiles, size-32}
-use Rattle.sound.specs.Spares.{clear-of}
+use Rattle.sound.specs.Apart.{clear-of, size-at, tiled-tiles}
+use Rattle.sound.specs.Edits.{snoc-end, snoc-tiles, size-32}
 use Rattle.sound.specs.RecordOf.{record-words}
 use Rattle.history.specs.Histories.{Block}
 use Rattle.history.specs.Demand3.{Held, Stretch, Free, Mended}

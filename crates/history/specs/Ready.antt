@@ -22,7 +22,7 @@ use Rattle.machine.specs.Writes.{Write, apply}
 use Rattle.machine.specs.Calls.{heapIn, wordsOf}
 use Rattle.sound.specs.Relation.{Mem, Loose, Good, Sound}
 use Rattle.sound.specs.Tiles.{lt-or-le, starts-once}
-use Rattle.sound.specs.Edits.{tiled-tiles}
+use Rattle.sound.specs.Apart.{tiled-tiles}
 use Rattle.sound.specs.RecordOf.{record-words}
 use Rattle.history.specs.Histories.{Block, drop, State, state}
 use Rattle.calls_consequences.specs.Results.{Lent}

@@ -21,7 +21,8 @@ use Rattle.machine.specs.Heap.{Heap, sizeOf}
 use Rattle.machine.specs.Calls.{heapIn, wordsOf}
 use Rattle.sound.specs.Relation.{Sound}
 use Rattle.sound.specs.Tiles.{lt-or-le, start}
-use Rattle.sound.specs.Edits.{tiled-tiles, size-16}
+use Rattle.sound.specs.Apart.{tiled-tiles}
+use Rattle.sound.specs.Edits.{size-16}
 use Rattle.sound.specs.Release.{both-true}
 use Rattle.sound.specs.Usable.{Usable, Agrees}
 use Rattle.audit.specs.Frame.{frame-sound, frame-view}

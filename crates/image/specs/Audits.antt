@@ -10,7 +10,7 @@ use Rattle.sizes.specs.Limits.{none64}
 use Rattle.machine.specs.Lists.{both, minus}
 use Rattle.machine.specs.Heap.{Tile, starts, endFrom, binned}
 use Rattle.machine.specs.View.{sizeAt, tileAt, kindAt, view}
-use Rattle.machine.specs.Audit.{sound?, first, recordFault, tileOk, tileFault, goodFrom, listFault, flagOk, flagFault, lists, auditBy}
+use Rattle.machine.specs.Audit.{sound?, first, recordFault, tileOk, tileFault, goodFrom, skipsOk, listFault, flagOk, flagFault, lists, auditBy}
 use Rattle.machine.specs.Calls.{faultNumbers}
 use Rattle.machine.specs.declared.{Audited.Audited, ListKind.ListKind}
 use Rattle.machine.specs.declared.ListKind.the-variants.{Cache, Fast, Bin}
@@ -37,7 +37,7 @@ zero-lists : (v : ℕ) (w r : List ℕ) (i : ℕ) (left : List ℕ) (ls : List (
 unfolding listFault
 zero-lists v w r i left [] = refl
 zero-lists v w r i left (l ∷ ls) =
-    zero-if (goodFrom v (kindAt i) w r left none64 0 l) (listFault v w r (suc i) (minus left l) ls) (A.List (kindAt i))
+    zero-if (both (goodFrom v (kindAt i) w r left none64 0 l) (skipsOk v (kindAt i) w l)) (listFault v w r (suc i) (minus left l) ls) (A.List (kindAt i))
     (zero-lists v w r (suc i) (minus left l) ls) (zero-list (kindAt i))
 
 zero-flags : (b : ℕ → ℕ) (top : Tile) (o q s : ℕ) (ts : List Tile) → Zero (flagFault b top o q s ts)

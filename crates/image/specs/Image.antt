@@ -9,10 +9,11 @@ use Rattle.le.specs.Arena.{arenaWords}
 use Rattle.sizes.specs.Limits.{recordBytes, newest}
 use Rattle.machine.specs.Lists.{both}
 use Rattle.machine.specs.Heap.{Heap}
-use Rattle.machine.specs.Writes.{apply}
+use Rattle.machine.specs.Writes.{Write, apply}
 use Rattle.machine.specs.Audit.{sound?, auditBy}
 use Rattle.machine.specs.Calls.{shape?, arenaAllowed?, wordsOf, heapIn, faultNumbers}
 use Rattle.image_keys.specs.Keys.{keysOf}
+use Rattle.image_skips.specs.Skips.{skipsOf}
 use Rattle.machine.specs.declared.{Answer.Answer, HeapFault.HeapFault}
 use Rattle.machine.specs.declared.Answer.the-variants.{Done, Refused}
 use Rattle.machine.specs.declared.Refusal.the-variants as R
@@ -23,7 +24,8 @@ use Rattle.image.specs.declared.Reading.the-variants.{NoMark, NoVersion,
 abbrev pub mark : List ℕ
 mark = 72 ∷ 80 ∷ 73 ∷ []
 
--- version 1 has a record of 1,572 bytes, without a key, and no keys in the cache; version 2, the newest, is the heap as it is
+-- version 1 has a record of 1,572 bytes, without a key, and no keys in the cache; versions 1 and 2 have no skip links in the bins; version 3, the newest,
+-- is the heap as it is
 abbrev pub known? : ℕ → Bool
 known? v = both (leb 1 v) (leb v newest)
 
@@ -76,9 +78,15 @@ arenaIn f = drop (recordAt + recordBytesBy (versionIn f)) f
 abbrev pub fits? : List ℕ → List ℕ → List ℕ → Bool
 fits? f a r = both (arenaAllowed? (lengthIn f)) (both (eqb (length f) (imageBytes (versionIn f) (lengthIn f))) (both (eqb (length a) (lengthIn f)) (eqb (length r) recordBytes)))
 
--- ---- what version 1 lacks: each cached chunk gets the key, where the heap is otherwise sound
-abbrev pub keyed : Heap → List ℕ → List ℕ
-keyed h a = bytes 8 (apply (keysOf h) (arenaWords a))
+-- ---- what an older heap lacks, where it is otherwise sound: before version 2 each cached chunk gets the key, before version 3 the bins get their skip links
+abbrev pub lackedKeys : ℕ → Heap → List Write
+lackedKeys v h = elim (ltb v 2) [ true ↦ keysOf h | false ↦ [] ]
+
+abbrev pub lacked : ℕ → Heap → List Write
+lacked v h = lackedKeys v h ++ skipsOf h
+
+abbrev pub completed : ℕ → Heap → List ℕ → List ℕ
+completed v h a = bytes 8 (apply (lacked v h) (arenaWords a))
 
 -- ---- reading: arena bytes, record bytes and answer. Number 6 for a wrong mark or fewer than 5 bytes, 7 for a version not known, 1 for a length, each writing
 -- nothing; else the heap as it was written, sound or not, with its audit's answer by the rules of its version; an older one that is sound gets what it lacks
@@ -86,8 +94,8 @@ pub data AfterReading : Type 0 where
   afterReading : List ℕ → List ℕ → Reading → AfterReading
 
 abbrev pub heapRead : ℕ → List ℕ → List ℕ → AfterReading
-heapRead v a r = elim (both (ltb v 2) (sound? (auditBy v (arenaWords a) (wordsOf r)))) [
-  | true ↦ afterReading (keyed (heapIn a r) a) r (Read (auditBy v (arenaWords a) (wordsOf r)))
+heapRead v a r = elim (both (ltb v newest) (sound? (auditBy v (arenaWords a) (wordsOf r)))) [
+  | true ↦ afterReading (completed v (heapIn a r) a) r (Read (auditBy v (arenaWords a) (wordsOf r)))
   | false ↦ afterReading a r (Read (auditBy v (arenaWords a) (wordsOf r)))
 ]
 

@@ -1,18 +1,18 @@
--- What a reading makes of an older image: its answer is the audit, by the rules of the file's version, of what it left; a heap of version 1 that is sound by those
--- rules is the same heap after it, with key 0, and sound by the newest; an unsound one is left as it stands in the file. Assumes nothing.
+-- What a reading makes of an older image: its answer is the audit, by the rules of the file's version, of what it left; a heap of version 1 or 2 that is sound by
+-- those rules is the same heap after it, one of version 1 with key 0, and sound by the newest; an unsound one is left as it stands in the file. Assumes nothing.
 use mathlib.Core.Path.{_≡_, refl, sym, ap, _∙_, subst}
 use mathlib.Core.Bool.{Bool, true, false}
 use mathlib.Core.List.{List, [], _∷_, _++_}
 use mathlib.Core.Logic.{_⊎_, inl, inr, ⊎-elim}
 use Prim.Native.Nat.{ℕ, zero, suc, _+_, _-_, _≤_, _<_}
 use native.Mathlib.Omega.{arith}
-use lib.ListN.{length, getD, take, drop, replicate}
+use lib.ListN.{getD, take, drop, replicate}
 use lib.Seq.{getD-drop}
 use Rattle.le.specs.Number.{bytes}
 use Rattle.le.specs.WordsLaws.{length-words}
 use Rattle.le.specs.Arena.{arenaWords}
 use Rattle.le.specs.ArenaLaws.{bytes-arenaWords}
-use Rattle.sizes.specs.Limits.{recordBytes}
+use Rattle.sizes.specs.Limits.{recordBytes, newest}
 use Rattle.machine.specs.Heap.{Heap}
 use Rattle.machine.specs.Writes.{apply}
 use Rattle.machine.specs.Audit.{sound?, auditBy}
@@ -27,11 +27,10 @@ use Rattle.calls.specs.Ways.{Octets, shape-true, shape-allowed, audit-good}
 use Rattle.calls.specs.Through.{Came, came-arena, words-small}
 use Rattle.calls_consequences.specs.Bytes.{arenaWords-cut}
 use Rattle.calls_consequences.specs.Written.{mem-cut}
-use Rattle.image_keys.specs.Keys.{keysOf, Lacking}
-use Rattle.image_keys.specs.KeysLaws.{keyed-sound}
 use Rattle.image.specs.declared.Reading.the-variants.{Read}
-use Rattle.image.specs.Image.{known?, recordBytesBy, versionIn, recordIn, arenaIn, keyed, afterReading, heapRead, readCall}
-use Rattle.image.specs.Ways.{known-true, heap-new, heap-unsound, heap-keyed, parts-long}
+use Rattle.image.specs.Image.{known?, recordBytesBy, versionIn, recordIn, arenaIn, lacked, completed, afterReading, heapRead, readCall}
+use Rattle.image.specs.Ways.{known-true, heap-new, heap-unsound, heap-completed, parts-long}
+use Rattle.image.specs.Completed.{Old, lacked-sound}
 use Rattle.image.specs.Parts.{TakenFrom, taken, taken-shape}
 
 -- ---- bytes of a file are bytes in its parts
@@ -61,61 +60,58 @@ record-small : (f : List ℕ) → Small f → Small (recordIn f)
 record-small f s = small-append (take (recordBytesBy (versionIn f)) (drop 9 f)) (replicate (recordBytes - recordBytesBy (versionIn f)) 0)
     (small-take (recordBytesBy (versionIn f)) (drop 9 f) (small-drop 9 f s)) (small-zeros (recordBytes - recordBytesBy (versionIn f)))
 
--- ---- arena a and record r of version 1, sound by its rules: with its keys the heap is sound by the newest
-old-sound : (a r : List ℕ) → shape? a r ≡ true → Small r → auditBy 1 (arenaWords a) (wordsOf r) ≡ A.Sound → SoundBy 1 (heapIn a r) (arenaWords a) (wordsOf r)
-old-sound a r s small e =
-    let c : Came a r (wordsOf r) = record { shape = s; small = small; words = refl } in
-    audit-sound-by 1 (arenaWords a) (wordsOf r) (arena-words a (came-arena a r (wordsOf r) c)) (length-words 4 395 r) (words-small r small) e
+-- ---- arena a and record r of version v, sound by its rules: with what it lacks the heap is sound by the newest
+module _ (v : ℕ) (a r : List ℕ) where
+  old-sound : shape? a r ≡ true → Small r → auditBy v (arenaWords a) (wordsOf r) ≡ A.Sound → SoundBy v (heapIn a r) (arenaWords a) (wordsOf r)
+  old-sound s small e =
+      let c : Came a r (wordsOf r) = record { shape = s; small = small; words = refl } in
+      audit-sound-by v (arenaWords a) (wordsOf r) (arena-words a (came-arena a r (wordsOf r) c)) (length-words 4 395 r) (words-small r small) e
 
-keyed-left : (a r : List ℕ) → shape? a r ≡ true → Small r → auditBy 1 (arenaWords a) (wordsOf r) ≡ A.Sound
-    → Sound (heapIn a r) (arenaWords (keyed (heapIn a r) a)) (wordsOf r)
-keyed-left a r s small e =
-    let S = keyed-sound (heapIn a r) (arenaWords a) (wordsOf r) (old-sound a r s small e) in
-    record {
-      good = S .good;
-      mem = rw (arenaWords-cut (apply (keysOf (heapIn a r)) (arenaWords a))) (mem-cut (heapIn a r) (S .good) (apply (keysOf (heapIn a r)) (arenaWords a)) (S .mem));
-      rec = S .rec;
-    }
+  completed-left : 1 ≤ v → v < newest → shape? a r ≡ true → Small r → auditBy v (arenaWords a) (wordsOf r) ≡ A.Sound
+      → Sound (heapIn a r) (arenaWords (completed v (heapIn a r) a)) (wordsOf r)
+  completed-left f o s small e =
+      let h = heapIn a r in
+      let S = lacked-sound v h (arenaWords a) (wordsOf r) f o (old-sound s small e) in
+      record {
+        good = S .good;
+        mem = rw (arenaWords-cut (apply (lacked v h) (arenaWords a))) (mem-cut h (S .good) (apply (lacked v h) (arenaWords a)) (S .mem));
+        rec = S .rec;
+      }
 
 -- ---- the ways to read a heap, as the code has it: words q of the record, and the answer x about them
 module _ (v : ℕ) (a r q : List ℕ) (x : Audited) (eq : q ≡ wordsOf r) (ex : x ≡ auditBy v (arenaWords a) q) where
   by-record : x ≡ auditBy v (arenaWords a) (wordsOf r)
   by-record = ex ∙ ap (auditBy v (arenaWords a)) eq
 
-  pub read-as-it-is : (2 ≤ v) ⊎ (sound? x ≡ false) → afterReading a r (Read x) ≡ heapRead v a r
+  pub read-as-it-is : (newest ≤ v) ⊎ (sound? x ≡ false) → afterReading a r (Read x) ≡ heapRead v a r
   read-as-it-is d =
       ap (λ (x : Audited). afterReading a r (Read x)) by-record
       ∙ ⊎-elim (λ l. heap-new v a r l) (λ e. heap-unsound v a r (ap sound? (sym by-record) ∙ e)) d
 
-  module _ (s : shape? a r ≡ true) (small : Small r) (known : known? v ≡ true) (old : v < 2) (e : sound? x ≡ true) where
-    was-1 : auditBy 1 (arenaWords a) (wordsOf r) ≡ A.Sound
-    was-1 =
-        let k = known-true v known in
-        let one : 1 ≡ v = omega (arith, k .0) in
-        ap (λ (v : ℕ). auditBy v (arenaWords a) (wordsOf r)) one ∙ sym by-record ∙ is-sound x e
+  module _ (s : shape? a r ≡ true) (small : Small r) (known : known? v ≡ true) (old : v < newest) (e : sound? x ≡ true) where
+    was-sound : SoundBy v (heapIn a r) (arenaWords a) q
+    was-sound = subst (SoundBy v (heapIn a r) (arenaWords a)) (sym eq) (old-sound v a r s small (sym by-record ∙ is-sound x e))
 
-    lacks : SoundBy 1 (heapIn a r) (arenaWords a) q
-    lacks = subst (SoundBy 1 (heapIn a r) (arenaWords a)) (sym eq) (old-sound a r s small was-1)
+    pub read-old : Old v (arenaWords a) q
+    read-old = record { first = known-true v known .0; older = old; heap = heapIn a r; sound = was-sound }
 
-    pub read-lacking : Lacking (arenaWords a) q
-    read-lacking = record { heap = heapIn a r; sound = lacks }
+    pub read-completed : (b : List ℕ) → Octets b → ((h : Heap) → SoundBy v h (arenaWords a) q → arenaWords b ≡ apply (lacked v h) (arenaWords a)) → afterReading b r (Read x) ≡ heapRead v a r
+    read-completed b o k =
+        ap (λ (b : List ℕ). afterReading b r (Read x)) (sym (bytes-arenaWords b (o .even) (o .small)) ∙ ap (bytes 8) (k (heapIn a r) was-sound))
+        ∙ ap (λ (x : Audited). afterReading (completed v (heapIn a r) a) r (Read x)) by-record ∙ heap-completed v a r old (ap sound? (sym by-record) ∙ e)
 
-    pub read-keyed : (b : List ℕ) → Octets b → ((h : Heap) → SoundBy 1 h (arenaWords a) q → arenaWords b ≡ apply (keysOf h) (arenaWords a)) → afterReading b r (Read x) ≡ heapRead v a r
-    read-keyed b o k =
-        ap (λ (b : List ℕ). afterReading b r (Read x)) (sym (bytes-arenaWords b (o .even) (o .small)) ∙ ap (bytes 8) (k (heapIn a r) lacks))
-        ∙ ap (λ (x : Audited). afterReading (keyed (heapIn a r) a) r (Read x)) by-record ∙ heap-keyed v a r old (ap sound? (sym by-record) ∙ e)
-
--- what is sound by the newest rules is sound by those of version 1
-older : {h : Heap} {w r : List ℕ} → Sound h w r → SoundBy 1 h w r
-older s = record {
+-- what is sound by the newest rules is sound by those of any version
+older : (v : ℕ) {h : Heap} {w r : List ℕ} → Sound h w r → SoundBy v h w r
+older v s = record {
   good = s .good;
   mem = record {
     long = s .mem .long;
     words = s .mem .words;
     chains = s .mem .chains;
     blinks = s .mem .blinks;
-    keys = λ z. absurd (omega arith);
+    keys = λ z. s .mem .keys (omega arith);
     key64 = s .mem .key64;
+    skipped = λ z. s .mem .skipped (omega arith);
   };
   rec = s .rec;
 }
@@ -127,18 +123,12 @@ module _ (f a r b q : List ℕ) (x : Audited) (small : Small f) (e : readCall f 
   abbrev before : Heap
   before = heapIn (arenaIn f) (recordIn f)
 
-  -- ---- version 1, and sound by its rules
-  module _ (old : versionIn f < 2) (s : sound? x ≡ true) where
-    one : versionIn f ≡ 1
-    one = let k = known-true (versionIn f) (T .known) in omega (arith, k .0)
-
-    was-sound : auditBy 1 (arenaWords (arenaIn f)) (wordsOf (recordIn f)) ≡ A.Sound
-    was-sound = ap (λ (v : ℕ). auditBy v (arenaWords (arenaIn f)) (wordsOf (recordIn f))) (sym one) ∙ sym (T .audit) ∙ is-sound x s
-
+  -- ---- an older version, and sound by its rules
+  module _ (old : versionIn f < newest) (s : sound? x ≡ true) where
     left-sound : Sound before (arenaWords b) (wordsOf q)
     left-sound =
         let L = parts-long f a r (T .fits) in
-        rw (T .keys old s, T .control) (keyed-left (arenaIn f) (recordIn f) (shape-true (arenaIn f) (recordIn f) (L .1) (ap arenaAllowed? (L .0) ∙ shape-allowed a r (T .fits .shape))) (record-small f small) was-sound)
+        rw (T .complete old s, T .control) (completed-left (versionIn f) (arenaIn f) (recordIn f) (known-true (versionIn f) (T .known) .0) old (shape-true (arenaIn f) (recordIn f) (L .1) (ap arenaAllowed? (L .0) ∙ shape-allowed a r (T .fits .shape))) (record-small f small) (sym (T .audit) ∙ is-sound x s))
 
     -- it is left sound by the newest rules, the same heap
     pub read-old-sound : (auditCall b q ≡ A.Sound) × (heapIn b q ≡ before)
@@ -148,7 +138,7 @@ module _ (f a r b q : List ℕ) (x : Audited) (small : Small f) (e : readCall f 
     )
 
     old-audits : x ≡ auditBy (versionIn f) (arenaWords b) (wordsOf q)
-    old-audits = is-sound x s ∙ sym (ap (λ (v : ℕ). auditBy v (arenaWords b) (wordsOf q)) one ∙ audit-complete-by 1 before (arenaWords b) (wordsOf q) (older left-sound))
+    old-audits = is-sound x s ∙ sym (audit-complete-by (versionIn f) before (arenaWords b) (wordsOf q) (older (versionIn f) left-sound))
 
   -- ---- unsound by the rules of its version it is as it stands in the file
   pub read-unsound-as-it-is : sound? x ≡ false → (b ≡ arenaIn f) × (q ≡ recordIn f)
@@ -159,8 +149,8 @@ module _ (f a r b q : List ℕ) (x : Audited) (small : Small f) (e : readCall f 
 
   -- ---- the answer of a reading is the audit, by the rules of the file's version, of what it left
   pub read-audits : x ≡ auditBy (versionIn f) (arenaWords b) (wordsOf q)
-  read-audits = ⊎-elim (λ l. by l (sound? x) refl) (λ l. same-audits (T .arena (inl l))) (lt-or-le (versionIn f) 2)
+  read-audits = ⊎-elim (λ l. by l (sound? x) refl) (λ l. same-audits (T .arena (inl l))) (lt-or-le (versionIn f) newest)
     where
-      by : versionIn f < 2 → (t : Bool) → sound? x ≡ t → x ≡ auditBy (versionIn f) (arenaWords b) (wordsOf q)
+      by : versionIn f < newest → (t : Bool) → sound? x ≡ t → x ≡ auditBy (versionIn f) (arenaWords b) (wordsOf q)
       by l true s = old-audits l s
       by l false s = same-audits (T .arena (inr s))

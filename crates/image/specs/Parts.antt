@@ -22,9 +22,8 @@ use Rattle.machine.specs.declared.Audited.{Audited}
 use Rattle.sound.specs.Tiles.{lt-or-le}
 use Rattle.sound.specs.Frames.{apply-length}
 use Rattle.calls.specs.Ways.{allowed-true, shape-true, shape-allowed}
-use Rattle.image_keys.specs.Keys.{keysOf}
 use Rattle.image.specs.declared.Reading.the-variants.{Read}
-use Rattle.image.specs.Image.{known?, recordBytesBy, image, lengthAt, recordAt, imageBytes, marked?, versionIn, lengthIn, recordIn, arenaIn, keyed, afterReading, readCall}
+use Rattle.image.specs.Image.{known?, recordBytesBy, image, lengthAt, recordAt, imageBytes, marked?, versionIn, lengthIn, recordIn, arenaIn, lacked, completed, afterReading, readCall}
 use Rattle.image.specs.Ways.{clash, never, both-yes, Fits, marked-long, fits-true, parts-long, heap-cases, read-cases}
 
 -- ---- of a file of the newest version
@@ -96,15 +95,15 @@ file-image f a r small e v F =
     rw (heap, long, digits-at 4 f 5 (omega arith) small, known) (sym (marked-starts f e))
 
 -- ---- what was read from a file: the file is good, the record stands in it, and the answer is the audit's by its version; the arena stands in it too, but that an
--- older heap that is sound got its keys
+-- older heap that is sound got what it lacked
 pub record TakenFrom (f a r b q : List ℕ) (x : Audited) : Type 0 where
   pub mark : marked? f ≡ true
   pub known : known? (versionIn f) ≡ true
   pub fits : Fits f a r
   pub control : q ≡ recordIn f
   pub audit : x ≡ auditBy (versionIn f) (arenaWords (arenaIn f)) (wordsOf (recordIn f))
-  pub arena : (2 ≤ versionIn f) ⊎ (sound? x ≡ false) → b ≡ arenaIn f
-  pub keys : versionIn f < 2 → sound? x ≡ true → b ≡ keyed (heapIn (arenaIn f) (recordIn f)) (arenaIn f)
+  pub arena : (newest ≤ versionIn f) ⊎ (sound? x ≡ false) → b ≡ arenaIn f
+  pub complete : versionIn f < newest → sound? x ≡ true → b ≡ completed (versionIn f) (heapIn (arenaIn f) (recordIn f)) (arenaIn f)
 
 pub taken : (f a r b q : List ℕ) (x : Audited) → readCall f a r ≡ afterReading b q (Read x) → TakenFrom f a r b q x
 taken f a r b q x = read-cases (λ y. y ≡ afterReading b q (Read x) → TakenFrom f a r b q x) f a r
@@ -119,7 +118,7 @@ taken f a r b q x = read-cases (λ y. y ≡ afterReading b q (Read x) → TakenF
       control = cc;
       audit = cc;
       arena = λ _. cc;
-      keys = λ l s. absurd (⊎-elim (λ n. omega arith) (λ n. let z : x ≡ auditBy (versionIn f) (arenaWords (arenaIn f)) (wordsOf (recordIn f)) = cc in never (sym n ∙ ap sound? (sym z) ∙ s)) d);
+      complete = λ l s. absurd (⊎-elim (λ n. omega arith) (λ n. let z : x ≡ auditBy (versionIn f) (arenaWords (arenaIn f)) (wordsOf (recordIn f)) = cc in never (sym n ∙ ap sound? (sym z) ∙ s)) d);
     })
     (λ l s e. record {
       mark = m;
@@ -128,7 +127,7 @@ taken f a r b q x = read-cases (λ y. y ≡ afterReading b q (Read x) → TakenF
       control = cc;
       audit = cc;
       arena = λ d. absurd (⊎-elim (λ n. omega arith) (λ n. let z : x ≡ auditBy (versionIn f) (arenaWords (arenaIn f)) (wordsOf (recordIn f)) = cc in never (sym n ∙ ap sound? z ∙ s)) d);
-      keys = λ _ _. cc;
+      complete = λ _ _. cc;
     }))
 
 -- what a good file says of the lengths of what was read
@@ -139,14 +138,14 @@ taken-shape f a r b q x T =
     let k : length b ≡ length a = ⊎-elim
     (λ l. by l (sound? x) refl)
     (λ l. ap length (T .arena (inl l)) ∙ L .0)
-    (lt-or-le (versionIn f) 2) in
+    (lt-or-le (versionIn f) newest) in
     (shape-true b q (ap length (T .control) ∙ L .1) (ap arenaAllowed? k ∙ shape-allowed a r (T .fits .shape)), k)
   where
-    by : versionIn f < 2 → (t : Bool) → sound? x ≡ t → length b ≡ length a
+    by : versionIn f < newest → (t : Bool) → sound? x ≡ t → length b ≡ length a
     by l true s =
         let L = parts-long f a r (T .fits) in
         let ok = allowed-true (length a) (shape-allowed a r (T .fits .shape)) in
         let h = heapIn (arenaIn f) (recordIn f) in
-        ap length (T .keys l s) ∙ length-bytes 8 (apply (keysOf h) (arenaWords (arenaIn f)))
-        ∙ omega (arith, apply-length (keysOf h) (arenaWords (arenaIn f)), length-arenaWords (arenaIn f), L .0, ok .0)
+        ap length (T .complete l s) ∙ length-bytes 8 (apply (lacked (versionIn f) h) (arenaWords (arenaIn f)))
+        ∙ omega (arith, apply-length (lacked (versionIn f) h) (arenaWords (arenaIn f)), length-arenaWords (arenaIn f), L .0, ok .0)
     by l false s = ap length (T .arena (inr s)) ∙ parts-long f a r (T .fits) .0

@@ -21,7 +21,7 @@ use Rattle.machine.specs.declared.Refusal.the-variants as R
 use Rattle.sound.specs.Tiles.{lt-or-le}
 use Rattle.calls.specs.Ways.{shape-true, shape-long, shape-allowed}
 use Rattle.image.specs.declared.Reading.the-variants.{NoMark, NoVersion, WrongLength, Read}
-use Rattle.image.specs.Image.{mark, known?, recordBytesBy, image, imageBytes, lengthAt, Written, written, writeCall, marked?, versionIn, lengthIn, recordIn, arenaIn, fits?, keyed, AfterReading, afterReading, heapRead, readCall}
+use Rattle.image.specs.Image.{mark, known?, recordBytesBy, image, imageBytes, lengthAt, Written, written, writeCall, marked?, versionIn, lengthIn, recordIn, arenaIn, fits?, completed, AfterReading, afterReading, heapRead, readCall}
 
 -- ---- tests
 pub clash : {B : Type 0} → _≡_ {A = ℕ} 0 1 → B
@@ -138,9 +138,9 @@ pub by-most : (v : ℕ) → (1572 ≤ recordBytesBy v) × (recordBytesBy v ≤ 1
 by-most v = ⊎-elim (λ l. let e = by-old v l in (omega arith, omega arith)) (λ l. let e = by-new v l in (omega arith, omega arith)) (lt-or-le v 2)
 
 -- a record that is completed with zeros: z is put behind the part p
-pub completed : (p z q u : List ℕ) (n m : ℕ) → length q ≡ recordBytes → length p ≤ recordBytes → n ≡ length p → m ≡ n + length z → z ≡ replicate (recordBytes - length p) 0
+pub record-completed : (p z q u : List ℕ) (n m : ℕ) → length q ≡ recordBytes → length p ≤ recordBytes → n ≡ length p → m ≡ n + length z → z ≡ replicate (recordBytes - length p) 0
     → take n u ≡ p → take m q ≡ take n u ++ z → q ≡ p ++ replicate (recordBytes - length p) 0
-completed p z q u n m l k en em ez eu e =
+record-completed p z q u n m l k en em ez eu e =
     sym (take-all m q (omega (arith, l, em, en, ap length ez ∙ length-replicate {A = ℕ} (recordBytes - length p) 0))) ∙ e ∙ rw (eu, ez)
 
 pub zeros-taken : (n m : ℕ) → n ≤ m → take n (replicate m 0) ≡ replicate {A = ℕ} n 0
@@ -148,40 +148,40 @@ zeros-taken zero m l = refl
 zeros-taken (suc n) zero l = absurd (omega arith)
 zeros-taken (suc n) (suc m) l = ap (λ (t : List ℕ). 0 ∷ t) (zeros-taken n m (omega arith))
 
--- ---- a version that is known is 1 or 2
-pub known-true : (v : ℕ) → known? v ≡ true → (1 ≤ v) × (v ≤ 2)
+-- ---- a version that is known is 1, 2 or 3
+pub known-true : (v : ℕ) → known? v ≡ true → (1 ≤ v) × (v ≤ newest)
 known-true v e = let p = both-yes (leb 1 v) (leb v newest) e in (leb-true 1 v (p .0), leb-true v newest (p .1))
 
 -- ---- what is made of a heap that was read
 module _ (v : ℕ) (a r : List ℕ) where
-  pub heap-new : 2 ≤ v → afterReading a r (Read (auditBy v (arenaWords a) (wordsOf r))) ≡ heapRead v a r
-  heap-new l = rw (le-ltb v 2 l, heapRead)
+  pub heap-new : newest ≤ v → afterReading a r (Read (auditBy v (arenaWords a) (wordsOf r))) ≡ heapRead v a r
+  heap-new l = rw (le-ltb v newest l, heapRead)
 
   pub heap-unsound : sound? (auditBy v (arenaWords a) (wordsOf r)) ≡ false → afterReading a r (Read (auditBy v (arenaWords a) (wordsOf r))) ≡ heapRead v a r
   heap-unsound e = ap (λ (t : Bool). elim t [
-    | true ↦ afterReading (keyed (heapIn a r) a) r (Read (auditBy v (arenaWords a) (wordsOf r)))
+    | true ↦ afterReading (completed v (heapIn a r) a) r (Read (auditBy v (arenaWords a) (wordsOf r)))
     | false ↦ afterReading a r (Read (auditBy v (arenaWords a) (wordsOf r)))
-  ]) (sym (ap (both (ltb v 2)) e ∙ never-both (ltb v 2)))
+  ]) (sym (ap (both (ltb v newest)) e ∙ never-both (ltb v newest)))
     where
       never-both : (t : Bool) → both t false ≡ false
       never-both true = refl
       never-both false = refl
 
-  pub heap-keyed : v < 2 → sound? (auditBy v (arenaWords a) (wordsOf r)) ≡ true → afterReading (keyed (heapIn a r) a) r (Read (auditBy v (arenaWords a) (wordsOf r))) ≡ heapRead v a r
-  heap-keyed l e = rw (lt-ltb v 2 l, heapRead) (rw e)
+  pub heap-completed : v < newest → sound? (auditBy v (arenaWords a) (wordsOf r)) ≡ true → afterReading (completed v (heapIn a r) a) r (Read (auditBy v (arenaWords a) (wordsOf r))) ≡ heapRead v a r
+  heap-completed l e = rw (lt-ltb v newest l, heapRead) (rw e)
 
 -- what holds of each way to make it holds of what is made
 pub heap-cases : (P : AfterReading → Type 0) (v : ℕ) (a r : List ℕ)
-    → ((2 ≤ v) ⊎ (sound? (auditBy v (arenaWords a) (wordsOf r)) ≡ false) → P (afterReading a r (Read (auditBy v (arenaWords a) (wordsOf r)))))
-    → (v < 2 → sound? (auditBy v (arenaWords a) (wordsOf r)) ≡ true → P (afterReading (keyed (heapIn a r) a) r (Read (auditBy v (arenaWords a) (wordsOf r)))))
+    → ((newest ≤ v) ⊎ (sound? (auditBy v (arenaWords a) (wordsOf r)) ≡ false) → P (afterReading a r (Read (auditBy v (arenaWords a) (wordsOf r)))))
+    → (v < newest → sound? (auditBy v (arenaWords a) (wordsOf r)) ≡ true → P (afterReading (completed v (heapIn a r) a) r (Read (auditBy v (arenaWords a) (wordsOf r)))))
     → P (heapRead v a r)
-heap-cases P v a r same keys = ⊎-elim
+heap-cases P v a r same full = ⊎-elim
     (λ l. by l (sound? (auditBy v (arenaWords a) (wordsOf r))) refl)
     (λ l. subst P (heap-new v a r l) (same (inl l)))
-    (lt-or-le v 2)
+    (lt-or-le v newest)
   where
-    by : v < 2 → (t : Bool) → sound? (auditBy v (arenaWords a) (wordsOf r)) ≡ t → P (heapRead v a r)
-    by l true e = subst P (heap-keyed v a r l e) (keys l e)
+    by : v < newest → (t : Bool) → sound? (auditBy v (arenaWords a) (wordsOf r)) ≡ t → P (heapRead v a r)
+    by l true e = subst P (heap-completed v a r l e) (full l e)
     by l false e = subst P (heap-unsound v a r e) (same (inr e))
 
 -- ---- reading

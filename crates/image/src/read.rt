@@ -1,11 +1,17 @@
-// Reading: numbers 6, 7 and 1 before the first write; then the record and the arena as they stand in the file, and their audit by the rules of its version.
+// Reading: numbers 6, 7 and 1 before the first write; then the record and the arena as they stand in the file, and their audit by the rules of its version. An
+// older heap that is sound by these gets what it lacks: one of version 1 keys and skip links, one of version 2 skip links.
 ghost use mathlib.Core.Path.{_≡_};
 ghost use mathlib.Core.Bool.{true};
 ghost use mathlib.Core.List.{_++_};
 ghost use Prim.Native.Nat.{_-_, _≤_};
 ghost use lib.ListN.{length, replicate};
+ghost use Rattle.le.specs.Arena.{arenaWords};
+ghost use Rattle.machine.specs.Heap.{Heap};
+ghost use Rattle.machine.specs.Writes.{apply};
 ghost use Rattle.machine.specs.Calls.{shape?};
-ghost use Rattle.image.specs.Image.{known?, afterReading, heapRead, readCall, marked?, versionIn, fits?};
+ghost use Rattle.sound.specs.Relation.{SoundBy};
+ghost use Rattle.image.specs.Image.{known?, lackedKeys, lacked, afterReading, heapRead, readCall, marked?, versionIn, fits?};
+ghost use Rattle.image.specs.Completed.{Old};
 use crate::LENGTH_AT;
 use crate::RECORD_AT;
 use crate::Reading;
@@ -71,7 +77,29 @@ fn put_record(control: &mut [u8], part: &[u8])
     put_bytes(control, n, &zeros[..rest]);
 }
 
-// The heap that was read from a file of version v, and its audit by that version's rules; one of version 1 that is sound gets its keys.
+// The keys that a heap of version v lacks: before version 2 those of its cached chunks.
+fn write_lacked_keys(arena: &mut [u8], r: &[u32], v: u16)
+    requires { ⌜ Old v (arenaWords (now arena)) (now r) ⌝ }
+    ensures { λ _. ⌜ ((h : Heap) → SoundBy v h (arenaWords (now (arena .entry))) (now (r .entry))
+        → arenaWords (now (arena .exit)) ≡ apply (lackedKeys v h) (arenaWords (now (arena .entry)))) ⌝ }
+{
+    if 2 <= v {
+        return;
+    }
+    image_keys::write_keys(arena, r);
+}
+
+// What a heap of version v lacks, an older one that is sound by its rules: keys, and the skip links of its bins.
+fn complete(arena: &mut [u8], r: &[u32], v: u16)
+    requires { ⌜ Old v (arenaWords (now arena)) (now r) ⌝ }
+    ensures { λ _. ⌜ ((h : Heap) → SoundBy v h (arenaWords (now (arena .entry))) (now (r .entry))
+        → arenaWords (now (arena .exit)) ≡ apply (lacked v h) (arenaWords (now (arena .entry)))) ⌝ }
+{
+    write_lacked_keys(arena, r, v);
+    image_skips::write_skips(arena, r);
+}
+
+// The heap that was read from a file of version v, and its audit by that version's rules; an older one that is sound gets what it lacks.
 fn heap_read(arena: &mut [u8], control: &[u8], v: u16) -> Reading
     requires { ⌜ (shape? (now arena) (now control) ≡ true) × (known? v ≡ true) ⌝ }
     ensures { λ x. ⌜ afterReading (now (arena .exit)) (now (control .entry)) x ≡ heapRead v (now (arena .entry)) (now (control .entry)) ⌝ }
@@ -79,13 +107,13 @@ fn heap_read(arena: &mut [u8], control: &[u8], v: u16) -> Reading
     let mut r = [0u32; 395];
     record_words::read_words(control, &mut r);
     let x = audit::audit_by(arena, &r, v as u32);
-    if 2 <= v {
+    if VERSION <= v {
         return Reading::Read(x);
     }
     if !machine::is_sound(x) {
         return Reading::Read(x);
     }
-    image_keys::write_keys(arena, &r);
+    complete(arena, &r, v);
     Reading::Read(x)
 }
 

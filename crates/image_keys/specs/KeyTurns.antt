@@ -1,5 +1,4 @@
--- The loops that write the keys, turn by turn: the words now, with the keys still to come, are the words at the end. Where a list's chunks lie and what the
--- record has of it is read from the heap with all its keys, which has the same record and no other length. Assumes nothing.
+-- The loops that write the keys, turn by turn: the words now, with the keys still to come, are the words at the end. Assumes nothing.
 use mathlib.Core.Path.{_≡_, refl, sym, ap, _∙_, subst}
 use mathlib.Core.List.{List, [], _∷_}
 use Prim.Native.Nat.{ℕ, suc, _+_, _≤_, _<_}
@@ -7,33 +6,35 @@ use native.Mathlib.Omega.{arith}
 use lib.ListN.{length, getD, take, drop, drop-of-length-le}
 use lib.Seq.{getD-set-other, getD-take, length-take-le, drop-cons}
 use Rattle.le.specs.Arena.{arenaWords}
-use Rattle.sizes.specs.Limits.{none64, cacheLists, cacheRoom}
-use Rattle.sizes.specs.Layout.{cacheHead, fwdWord, keyWord}
+use Rattle.sizes.specs.Limits.{none64, none32, cacheLists, cacheRoom}
+use Rattle.sizes.specs.Layout.{cacheHead, keyLow, keyHigh, fwdWord, keyWord}
 use Rattle.machine.specs.Lists.{hd}
 use Rattle.machine.specs.Count.{cnt-here, cnt-there, cnt-le-all}
 use Rattle.machine.specs.Heap.{Heap, stack}
 use Rattle.machine.specs.Writes.{key, put, apply}
 use Rattle.machine.specs.View.{up, keyIn, chunksFrom}
 use Rattle.sound.specs.Relation.{chain, SoundBy}
-use Rattle.sound.specs.Frames.{put-length, apply-length, apply-append, chain-cong}
-use Rattle.primitives.specs.Follow.{Ok}
-use Rattle.primitives.specs.Stacks.{ok-length, ok-stack, ok-cacheHead, ok-key}
-use Rattle.primitives.specs.Chunks.{Chunk, Chunks, Inside, in-bytes, up-hd, walk-list}
+use Rattle.sound.specs.Frames.{put-length, apply-append, chain-cong}
+use Rattle.sound.specs.RecordOf.{record-length, record-words, record-cacheHead}
+use Rattle.primitives.specs.Chunks.{Chunk, Chunks, Inside, in-bytes, stack-chunk, up-hd, walk-list}
 use Rattle.image_keys.specs.Keys.{keysFor, keysIn, keysOf}
-use Rattle.image_keys.specs.KeysLaws.{keysFor-key, keys-sound, keyed-sound}
+use Rattle.image_keys.specs.KeysLaws.{keysFor-key, keys-sound}
 
--- ---- the heap with its keys
+-- ---- what words and record have of the lists
 module _ (h : Heap) (w r : List ℕ) (o : SoundBy 1 h w r) where
-  keyed-ok : Ok h (apply (keysOf h) w) r
-  keyed-ok = let s = keyed-sound h w r o in record { shape = s .good .shape; mem = s .mem; rec = s .rec }
-
   pub lacking-length : length r ≡ 395
-  lacking-length = ok-length h (apply (keysOf h) w) r keyed-ok
+  lacking-length = ap length (o .rec) ∙ record-length h (o .good .shape .stacked74) (o .good .shape .binned127)
 
   lacking-stack : (k : ℕ) → Chunks w (stack h k)
-  lacking-stack k x i =
-      let c : Chunk (apply (keysOf h) w) x = ok-stack h (apply (keysOf h) w) r keyed-ok k x i in
-      record { even = c .even; inside = omega (arith, c .inside, apply-length (keysOf h) w); small = c .small }
+  lacking-stack k = stack-chunk h w (o .good .shape) (o .mem) k
+
+  lacking-head : (k : ℕ) → k < 64 → getD r (cacheHead k) 0 ≡ hd none32 (stack h k)
+  lacking-head k hk = ap (λ (r : List ℕ). getD r (cacheHead k) 0) (o .rec) ∙ record-cacheHead h (o .good .shape .stacked74) (o .good .shape .binned127) k hk
+
+  lacking-key : keyIn r ≡ h .key
+  lacking-key =
+      let m = record-words h (o .good .shape .stacked74) (o .good .shape .binned127) in
+      omega (arith, ap (λ (r : List ℕ). getD r keyLow 0) (o .rec) ∙ m .low, ap (λ (r : List ℕ). getD r keyHigh 0) (o .rec) ∙ m .high)
 
 -- ---- one list: x is the first of chunks whose keys, written into words w, make the words v
 pub record Unkeyed (q : ℕ) (v w : List ℕ) (x : ℕ) : Type 0 where
@@ -47,7 +48,7 @@ pub record Unkeyed (q : ℕ) (v w : List ℕ) (x : ℕ) : Type 0 where
 pub unkeyed-start : (h : Heap) (w r : List ℕ) (k q x : ℕ) → SoundBy 1 h w r → k < 64 → x ≡ up (getD r (cacheHead k) 0) → Unkeyed q (apply (keysFor q (stack h k)) w) w x
 unkeyed-start h w r k q x o hk e = record {
   rest = stack h k;
-  first = e ∙ ap up (ok-cacheHead h (apply (keysOf h) w) r (keyed-ok h w r o) k hk) ∙ up-hd w (stack h k) (lacking-stack h w r o k);
+  first = e ∙ ap up (lacking-head h w r o k hk) ∙ up-hd w (stack h k) (lacking-stack h w r o k);
   short = o .good .homes .short k hk;
   chunks = lacking-stack h w r o k;
   chained = o .mem .chains k;
@@ -119,7 +120,7 @@ module _ {k : ℕ} {h : Heap} {r v w : List ℕ} (L : UnkeyedFrom k h r v w) whe
 
   pub from-next : (q : ℕ) {u : List ℕ} → k < 64 → q ≡ keyIn r → u ≡ apply (keysFor q (stack h k)) w → UnkeyedFrom (k + 1) h r v u
   from-next q {u} hk eq e =
-      let ek : q ≡ h .key = eq ∙ ok-key h (apply (keysOf h) w) r (keyed-ok h w r (L .sound)) in
+      let ek : q ≡ h .key = eq ∙ lacking-key h w r (L .sound) in
       let n : suc k ≡ k + 1 = omega arith in
       let d : drop k cached ≡ stack h k ∷ drop (k + 1) cached =
       drop-cons cached k [] (omega (arith, cached64)) ∙ ap (λ (l : List ℕ). l ∷ drop (suc k) cached) (getD-take cacheLists (h .stacks) k [] hk)

@@ -1,5 +1,5 @@
--- With the key in each cached chunk a heap that is sound by the rules of version 1 is sound by the newest. Only second words of cached chunks are written, and
--- those no list's links nor the tiles ask for (keys-sound); whichever write comes last, it writes the key (keysIn-has). Assumes nothing.
+-- With the key in each cached chunk a heap that is sound by the rules of version 1 is sound by those of version 2. Only second words of cached chunks are
+-- written, and those no list's links nor the tiles ask for (keys-sound); whichever write comes last, it writes the key (keysIn-has). Assumes nothing.
 use mathlib.Core.Path.{_≡_, refl, sym, ap, _∙_}
 use mathlib.Core.List.{List, [], _∷_, _++_}
 use mathlib.Core.Logic.{_⊎_, inl, inr, ⊎-elim}
@@ -13,7 +13,7 @@ use Rattle.machine.specs.Lists.{cnt, cntAll}
 use Rattle.machine.specs.Count.{eq?, ind-other, cnt-here, cnt-le-all}
 use Rattle.machine.specs.Heap.{Heap, stack, bin}
 use Rattle.machine.specs.Writes.{Write, who, field, key, put, apply}
-use Rattle.sound.specs.Relation.{all, MemBy, Shape, SoundBy, Sound}
+use Rattle.sound.specs.Relation.{all, MemBy, Shape, SoundBy}
 use Rattle.sound.specs.Tiles.{lt-or-le}
 use Rattle.sound.specs.Frames.{Agree, chain-cong, links-cong, Starts, starts-all, Grid, grid, Sub, Off, put-length, apply-length, apply-append, agree, tiles-agree, in-starts}
 use Rattle.image_keys.specs.Keys.{keysFor, keysIn, keysOf}
@@ -63,6 +63,7 @@ keys-mem h w ws s m kw =
           (inr (λ x i. omega (arith, s .own x, starts-all h x, G .once x, cnt-le-all x (h .bins) j))) kw)) (m .blinks j);
       keys = λ z. absurd (omega arith);
       key64 = m .key64;
+      skipped = λ z. absurd (omega (arith, z));
     }
 
 pub keys-sound : (h : Heap) (w r : List ℕ) (ws : List Write) → SoundBy 1 h w r → KeyW (h .stacks) ws → SoundBy 1 h (apply ws w) r
@@ -97,7 +98,7 @@ cntAll-take zero x ls = omega arith
 cntAll-take (suc n) x [] = omega arith
 cntAll-take (suc n) x (l ∷ ls) = omega (arith, cntAll-take n x ls)
 
-pub keyed-sound : (h : Heap) (w r : List ℕ) → SoundBy 1 h w r → Sound h (apply (keysOf h) w) r
+pub keyed-sound : (h : Heap) (w r : List ℕ) → SoundBy 1 h w r → SoundBy 2 h (apply (keysOf h) w) r
 keyed-sound h w r o =
     let cached : List (List ℕ) = take cacheLists (h .stacks) in
     let s = o .good .shape in
@@ -114,6 +115,7 @@ keyed-sound h w r o =
             let b : x / 8 + 4 ≤ length w = G .inside x (in-starts h x s (omega (arith, cnt-le-all x (h .stacks) k))) in
             keysIn-has (h .key) x cached w (omega arith) (inl (omega (arith, cnt-le-all x cached k, ap (cnt x) (getD-take cacheLists (h .stacks) k [] p))));
         key64 = m .key64;
+        skipped = λ z. absurd (omega (arith, z));
       };
       rec = o .rec;
     }

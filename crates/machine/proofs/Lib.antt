@@ -1,3 +1,4 @@
 pub mod Script
 pub mod Examples
+pub mod Rings
 pub mod Faults

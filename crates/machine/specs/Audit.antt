@@ -10,6 +10,8 @@ use Rattle.sizes.specs.Sizes.{binOf}
 use Rattle.sizes.specs.Layout.{lengthWord, topWord, cacheCount, binLast, backWord, keyWord}
 use Rattle.machine.specs.Lists.{both, either, has?, without, minus}
 use Rattle.machine.specs.Heap.{Tile, Heap, starts, endFrom, binned}
+use Rattle.machine.specs.Writes.{stand?}
+use Rattle.machine.specs.Skips.{skips}
 use Rattle.machine.specs.View.{sizeAt, lowAt, tileAt, up, kindAt, keyIn, view}
 use Rattle.machine.specs.declared.{Audited.Audited, ListKind.ListKind}
 use Rattle.machine.specs.declared.ListKind.the-variants.{Cache, Fast, Bin}
@@ -65,11 +67,20 @@ unfoldable pub goodFrom : ℕ → ListKind → List ℕ → List ℕ → List �
 goodFrom v k w r left p n [] = mayEnd k r p n
 goodFrom v k w r left p n (c ∷ l) = both (both (has? c left) (mayStand v k w r p n c)) (goodFrom v k w r (without c left) c (suc n) l)
 
+-- whether the skip links of such a list's chunks are right; versions 1 and 2 do not ask for them
+abbrev pub skipsOk : ℕ → ListKind → List ℕ → List ℕ → Bool
+skipsOk v (Cache k) w l = true
+skipsOk v (Fast k) w l = true
+skipsOk v (Bin j) w l = either (ltb v 3) (stand? (skips j (λ x. sizeAt w x) l) w)
+
 -- list after list, from number i on
 unfoldable pub listFault : ℕ → List ℕ → List ℕ → ℕ → List ℕ → List (List ℕ) → Audited
 listFault v w r i left [] = A.Sound
 listFault v w r i left (l ∷ ls) =
-    elim (goodFrom v (kindAt i) w r left none64 0 l) [ true ↦ listFault v w r (suc i) (minus left l) ls | false ↦ A.List (kindAt i) ]
+    elim (both (goodFrom v (kindAt i) w r left none64 0 l) (skipsOk v (kindAt i) w l)) [
+      | true ↦ listFault v w r (suc i) (minus left l) ls
+      | false ↦ A.List (kindAt i)
+    ]
 
 -- ---- Flags, chunk by chunk: P is clear exactly if the chunk before is in a bin, and the previous size is then its size; no binned chunk touches another
 -- or the top; chunk 0 has P set. q: how often the bins have the chunk before, s: its size; b: how often they have this one, the top counting as binned

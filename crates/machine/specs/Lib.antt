@@ -2,6 +2,7 @@ pub mod Lists
 pub mod Count
 pub mod Heap
 pub mod Writes
+pub mod Skips
 pub mod Primitives
 pub mod Release
 pub mod Grant

@@ -5,6 +5,7 @@ use Rattle.sizes.specs.Limits.{none64}
 use Rattle.machine.specs.Lists.{hd, lst, tl, pre, post}
 use Rattle.machine.specs.Heap.{Tile, tile, Heap, stack, bin, withTiles, withStack, withBin, withRemainder, upTo, edit, topOf, sizeOf, pOf, next}
 use Rattle.machine.specs.Writes.{Write, size, note, link, fwd, back, key, Ran, ran, does, _>>=_}
+use Rattle.machine.specs.Skips.{skipsIn, skipsOut}
 use Rattle.machine.specs.declared.{Got.Got, Got.the-variants.At}
 
 -- ---- stacks: the only place that writes a stack's link
@@ -34,18 +35,24 @@ abbrev pub backTo : List ℕ → ℕ → List Write
 backTo [] c = []
 backTo (y ∷ ys) c = back y c ∷ []
 
--- c goes into bin j between xs and ys; c goes first in bin j
+-- c goes into bin j between xs and ys; c goes first in bin j. The skip links follow the bin's list
+abbrev pub linksIn : ℕ → List ℕ → List ℕ → List Write
+linksIn c xs ys = fwd c (hd none64 ys) ∷ back c (lst none64 xs) ∷ fwdTo xs c ++ backTo ys c
+
 abbrev pub linkIn : ℕ → ℕ → List ℕ → List ℕ → Heap → Ran (Unit {0})
-linkIn j c xs ys h = does (withBin j (xs ++ c ∷ ys) h) (fwd c (hd none64 ys) ∷ back c (lst none64 xs) ∷ fwdTo xs c ++ backTo ys c)
+linkIn j c xs ys h = does (withBin j (xs ++ c ∷ ys) h) (linksIn c xs ys ++ skipsIn j (λ x. sizeOf h x) c (xs ++ c ∷ ys))
 
 abbrev pub putFirst : ℕ → ℕ → Heap → Ran (Unit {0})
 putFirst j c h = linkIn j c [] (bin h j) h
 
--- c leaves bin j; its own links stay as they are
+-- c leaves bin j, from between xs and ys; its own links stay as they are
+abbrev pub linksOut : List ℕ → List ℕ → List Write
+linksOut xs ys = fwdTo xs (hd none64 ys) ++ backTo ys (lst none64 xs)
+
 abbrev pub unlink : ℕ → ℕ → Heap → Ran (Unit {0})
 unlink j c h =
     does (withBin j (pre c (bin h j) ++ post c (bin h j)) h)
-    (fwdTo (pre c (bin h j)) (hd none64 (post c (bin h j))) ++ backTo (post c (bin h j)) (lst none64 (pre c (bin h j))))
+    (linksOut (pre c (bin h j)) (post c (bin h j)) ++ skipsOut j (λ x. sizeOf h x) (pre c (bin h j) ++ post c (bin h j)))
 
 -- ---- tiles, changed from some chunk on
 abbrev pub swallowT : List Tile → List Tile

@@ -1,7 +1,10 @@
 -- What a step comes to: the heap after it, the fields it writes in order, its answer. Memory after a step is what its writes make of it. Definitions only.
 use mathlib.Core.List.{List, [], _∷_, _++_}
+use mathlib.Core.Bool.{Bool, true, false}
 use Prim.Native.Nat.{ℕ, _+_, _/_}
+use lib.Dec.{eqb}
 use lib.ListN.{getD, set}
+use Rattle.machine.specs.Lists.{both}
 use Rattle.machine.specs.Heap.{Heap}
 use Rattle.machine.specs.declared.{Got.Got, Got.the-variants.At, Got.the-variants.Nothing}
 
@@ -15,6 +18,8 @@ pub data Write : Type 0 where
   fwd : ℕ → ℕ → Write  -- c's forward link in a bin
   back : ℕ → ℕ → Write  -- c's back link in a bin
   key : ℕ → ℕ → Write  -- c's second usable word in a cache list: the key, and 0 when c is taken
+  skipFwd : ℕ → ℕ → Write  -- c's forward skip link
+  skipBack : ℕ → ℕ → Write  -- c's back skip link
   copy : ℕ → ℕ → ℕ → Write  -- c's usable word i: that of the chunk given second
 
 -- whose field it is, which of its 8-byte words, and what goes there; only a copy asks what the words were
@@ -25,6 +30,8 @@ who (link c x) = c
 who (fwd c x) = c
 who (back c x) = c
 who (key c x) = c
+who (skipFwd c x) = c
+who (skipBack c x) = c
 who (copy c x i) = c
 
 abbrev pub field : Write → ℕ
@@ -34,6 +41,8 @@ field (link c x) = 2
 field (fwd c x) = 2
 field (back c x) = 3
 field (key c x) = 3
+field (skipFwd c x) = 4
+field (skipBack c x) = 5
 field (copy c x i) = 2 + i
 
 abbrev pub value : Write → List ℕ → ℕ
@@ -43,15 +52,21 @@ value (link c x) w = x
 value (fwd c x) w = x
 value (back c x) w = x
 value (key c x) w = x
+value (skipFwd c x) w = x
+value (skipBack c x) w = x
 value (copy c x i) w = getD w (x / 8 + (2 + i)) 0
 
--- the arena's words after a write, and after several
+-- the arena's words after a write, and after several; whether the words are as writes would leave them
 abbrev pub put : Write → List ℕ → List ℕ
 put e w = set w (who e / 8 + field e) (value e w)
 
 abbrev pub apply : List Write → List ℕ → List ℕ
 apply [] w = w
 apply (e ∷ es) w = apply es (put e w)
+
+abbrev pub stand? : List Write → List ℕ → Bool
+stand? [] w = true
+stand? (e ∷ es) w = both (eqb (getD w (who e / 8 + field e) 0) (value e w)) (stand? es w)
 
 pub data Ran (A : Type 0) : Type 0 where
   ran : Heap → List Write → A → Ran A

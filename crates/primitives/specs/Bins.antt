@@ -14,7 +14,7 @@ use Rattle.machine.specs.Lists.{hd, lst, pre, post, cnt}
 use Rattle.machine.specs.Count.{eq?, cnt-here, cnt-append, cnt-two}
 use Rattle.machine.specs.Heap.{Heap, bin, withBin, recordOf}
 use Rattle.machine.specs.Writes.{fwd, back, put, apply}
-use Rattle.machine.specs.Primitives.{fwdTo, backTo, linkIn, unlink}
+use Rattle.machine.specs.Primitives.{fwdTo, backTo}
 use Rattle.machine.specs.View.{up}
 use Rattle.sound.specs.Relation.{links, Loose}
 use Rattle.sound.specs.Frames.{apply-append, Starts, starts-all, Grid, grid}
@@ -23,6 +23,7 @@ use Rattle.sound.specs.Lists.{cut, cut-cnt, lst-append, lst-in, links-split, in
 use Rattle.sound.specs.RecordOf.{record-binFirst, record-binLast, record-withBin}
 use Rattle.primitives.specs.Follow.{Ok, Gave, Does}
 use Rattle.primitives.specs.Places.{Gap, InBin, Home, home-in}
+use Rattle.primitives.specs.Linked.{comes, leaves}
 use Rattle.primitives.specs.Chunks.{Chunk, Chunks, Inside, in-bytes, loose-chunk, bin-chunk, down-chunk, up-hd, down-hd, down-lst, hd-narrow, lst-narrow}
 use Rattle.primitives.specs.Ends.{linkFwd, linkBack, linkEnd, binBy, Leads, linkFwd-some, linkBack-some, linkEnd-some, binBy-same, binBy-other, not-none, fwd-words, back-words, hd-leads, lst-leads, end-set}
 
@@ -114,7 +115,7 @@ module _ (h : Heap) (w r : List ℕ) (o : Ok h w r) where
   pub link-in-gave : (j c p n : ℕ) (xs ys v₁ v₂ v₃ v q₁ q : List ℕ) → 1 ≤ j → j ≤ 126 → Loose h c → Gap h j xs ys p n
       → v₁ ≡ put (fwd c n) w → v₂ ≡ put (back c p) v₁
       → v₃ ≡ linkFwd v₂ p c → q₁ ≡ linkEnd r (binFirst j) p c → v ≡ linkBack v₃ n c → q ≡ linkEnd q₁ (binLast j) n c
-      → Gave (Unit {0}) (linkIn j c xs ys h) tt w v q
+      → Gave (Unit {0}) (comes j c xs ys h) tt w v q
   link-in-gave j c p n xs ys v₁ v₂ v₃ v q₁ q low high lo g e₁ e₂ e₃ f₁ e f =
       let kx = gap-low j xs ys p n g in
       let ky = gap-high j xs ys p n g in
@@ -193,7 +194,7 @@ module _ (h : Heap) (w r : List ℕ) (o : Ok h w r) where
 
   pub unlink-gave : (j c n p : ℕ) (v₁ v q₁ q : List ℕ) → InBin h j c → n ≡ getD w (fwdWord c) 0 → p ≡ getD w (backWord c) 0
       → v₁ ≡ linkFwd w p n → q₁ ≡ linkEnd r (binFirst j) p n → v ≡ linkBack v₁ n p → q ≡ linkEnd q₁ (binLast j) n p
-      → Gave (Unit {0}) (unlink j c h) tt w v q
+      → Gave (Unit {0}) (leaves j c h) tt w v q
   unlink-gave j c n p v₁ v q₁ q m en ep e₁ f₁ e f₂ =
       let a = around j c (m .here) in
       let xs = pre c (bin h j) in
@@ -220,13 +221,13 @@ module _ (h : Heap) (w r : List ℕ) (o : Ok h w r) where
       }
 
   -- the bin is known by another number, which is the same
-  pub unlink-known-gave : (j i c z : ℕ) {v q : List ℕ} → Home h j c z → i ≡ j → Does (Unit {0}) (λ h. InBin h i c) (unlink i c) w r tt v q → Gave (Unit {0}) (unlink j c h) tt w v q
+  pub unlink-known-gave : (j i c z : ℕ) {v q : List ℕ} → Home h j c z → i ≡ j → Does (Unit {0}) (λ h. InBin h i c) (leaves i c) w r tt v q → Gave (Unit {0}) (leaves j c h) tt w v q
   unlink-known-gave j i c z {v} {q} m e d =
-      subst (λ (k : ℕ). Does (Unit {0}) (λ h. InBin h k c) (unlink k c) w r tt v q) e d .does h o (home-in h j c z m)
+      subst (λ (k : ℕ). Does (Unit {0}) (λ h. InBin h k c) (leaves k c) w r tt v q) e d .does h o (home-in h j c z m)
 
   -- between two chunks the record stays as it is
   pub unlink-inner-gave : (j c n p : ℕ) (v₁ v : List ℕ) → InBin h j c → n ≡ getD w (fwdWord c) 0 → p ≡ getD w (backWord c) 0 → (p ≡ none64 → ⊥) → (n ≡ none64 → ⊥)
-      → v₁ ≡ put (fwd p n) w → v ≡ put (back n p) v₁ → Gave (Unit {0}) (unlink j c h) tt w v r
+      → v₁ ≡ put (fwd p n) w → v ≡ put (back n p) v₁ → Gave (Unit {0}) (leaves j c h) tt w v r
   unlink-inner-gave j c n p v₁ v m en ep sp sn e₁ e =
       unlink-gave j c n p v₁ v r r m en ep (e₁ ∙ sym (linkFwd-some w p n sp)) (sym (linkEnd-some r (binFirst j) p n sp)) (e ∙ sym (linkBack-some v₁ n p sn)) (sym (linkEnd-some r (binLast j) n p sn))
 

@@ -16,7 +16,7 @@ use Rattle.machine.specs.Lists.{hd, lst, tl, some?, cnt}
 use Rattle.machine.specs.Count.{cnt-here, cnt-le-all, pigeons}
 use Rattle.machine.specs.Heap.{Heap, stack, bin, starts}
 use Rattle.machine.specs.View.{up, chunksFrom}
-use Rattle.sound.specs.Relation.{all, Mem, Shape, Loose, chain}
+use Rattle.sound.specs.Relation.{all, MemBy, Shape, Loose, chain}
 use Rattle.sound.specs.Tiles.{starts-length}
 use Rattle.sound.specs.Frames.{Starts, starts-all, end-all, Grid, grid, in-starts}
 use Rattle.sound.specs.Lists.{lst-in}
@@ -37,7 +37,8 @@ pub record Inside (n c : ℕ) : Type 0 where
 pub in-bytes : (a : List ℕ) (c : ℕ) → Chunk (arenaWords a) c → Inside (length a) c
 in-bytes a c k = record { even = k .even; high = omega (arith, k .inside, length-arenaWords a); small = k .small }
 
-module _ (h : Heap) (w : List ℕ) (s : Shape h) (m : Mem h w) where
+-- by any version of the rules
+module _ {v : ℕ} (h : Heap) (w : List ℕ) (s : Shape h) (m : MemBy v h w) where
   pub start-chunk : (c : ℕ) → 1 ≤ cnt c (Starts h) → Chunk w c
   start-chunk c i =
       let g : Grid (Starts h) (length w) = grid h (length w) (s .sizes) (m .long) in

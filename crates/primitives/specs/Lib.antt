@@ -3,10 +3,12 @@ pub mod Follow
 pub mod FollowLaws
 pub mod Reach
 pub mod Places
+pub mod Linked
 pub mod Chunks
 pub mod Ends
 pub mod Stacks
 pub mod Heads
 pub mod Bins
 pub mod Sizes
+pub mod Rings
 pub mod CacheList

@@ -11,9 +11,9 @@ use Rattle.machine.specs.Heap.{Tile, tile, Heap, endFrom, since, upTo, edit, to
 use Rattle.machine.specs.Writes.{size, put}
 use Rattle.machine.specs.Primitives.{markT, setP}
 use Rattle.machine.specs.View.{sizeAt}
-use Rattle.sound.specs.Relation.{tiled, tilesAt, Mem, Shape}
+use Rattle.sound.specs.Relation.{tiled, tilesAt, MemBy, Shape}
 use Rattle.sound.specs.Tiles.{tiled-split, end-append, place, tiles-split}
-use Rattle.sound.specs.Edits.{tiles-at, size-at, tiled-tiles}
+use Rattle.sound.specs.Apart.{size-at, tiled-tiles, tiles-at}
 use Rattle.sound.specs.RecordOf.{record-top, record-withTiles, set-id}
 use Rattle.primitives.specs.Follow.{Ok, Gave}
 
@@ -26,7 +26,8 @@ module _ (h : Heap) (s : Shape h) where
   top-tile : List Tile
   top-tile = tile (topSize h) 1 0 ∷ []
 
-  module _ (w : List ℕ) (m : Mem h w) where
+  -- by any version of the rules
+  module _ {v : ℕ} (w : List ℕ) (m : MemBy v h w) where
     place-says : (a z : List Tile) (t : Tile) → h .tiles ≡ a ++ t ∷ z → Says h w (endFrom 0 a)
     unfolding top-tile
     place-says a z t e =

@@ -13,7 +13,8 @@ use Rattle.machine.specs.Heap.{Tile, tile, Heap, endFrom, topSize, sizeOf, next
 use Rattle.machine.specs.View.{sizeAt}
 use Rattle.sound.specs.Relation.{tiled, flags}
 use Rattle.sound.specs.Tiles.{tiled-split}
-use Rattle.sound.specs.Edits.{size-at, snoc-end, snoc-tiles, tiled-tiles}
+use Rattle.sound.specs.Apart.{size-at, tiled-tiles}
+use Rattle.sound.specs.Edits.{snoc-end, snoc-tiles}
 use Rattle.sound.specs.Flags.{flagsAfter}
 use Rattle.primitives.specs.Follow.{Ok}
 use Rattle.primitives.specs.FollowLaws.{ok-len, ok-top}

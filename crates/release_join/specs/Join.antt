@@ -16,7 +16,8 @@ use Rattle.machine.specs.Release.{absorb, joinNext, putDown, join}
 use Rattle.machine.specs.View.{sizeAt}
 use Rattle.sound.specs.Relation.{tiled, Loose, Good}
 use Rattle.sound.specs.Tiles.{tiled-split, starts-once, Place}
-use Rattle.sound.specs.Edits.{tiles-at, size-at, snoc-end, snoc-tiles, tiled-tiles}
+use Rattle.sound.specs.Apart.{size-at, tiled-tiles, tiles-at}
+use Rattle.sound.specs.Edits.{snoc-end, snoc-tiles}
 use Rattle.sound.specs.Flags.{lastS}
 use Rattle.sound.specs.Ends.{Ends, ends-weaken}
 use Rattle.sound.specs.Join.{Joined, Opened, next-ends, Before, before-of, lst-starts, open-flags, gap-here, prev-ends, join-here, join-prev}

@@ -22,8 +22,9 @@ use Rattle.machine.specs.View.{sizeAt}
 use Rattle.sound.specs.Relation.{tiled, Mem, Shape, Loose, Homes}
 use Rattle.sound.specs.Tiles.{zero-or, tiled-split, end-le, end-append, starts-append}
 use Rattle.sound.specs.Frames.{apply-length}
+use Rattle.sound.specs.Apart.{tiled-tiles}
 use Rattle.sound.specs.Lists.{unlink-shape}
-use Rattle.sound.specs.Edits.{snoc-end, snoc-tiles, top-mid, Kept, tiled-tiles, swallow-is, clear-is, clear-kept, to-top-is}
+use Rattle.sound.specs.Edits.{snoc-end, snoc-tiles, top-mid, Kept, swallow-is, clear-is, clear-kept, to-top-is}
 use Rattle.sound.specs.Flags.{flagsAfter}
 use Rattle.sound.specs.Join.{bin-has, Joining, next-no, next-yes, down-top, down-bin}
 use Rattle.sound.specs.RecordOf.{record-withTiles, record-tiles}

@@ -14,7 +14,7 @@ use Rattle.machine.specs.View.{sizeAt}
 use Rattle.sound.specs.Relation.{all, tiled, tilesAt, Loose}
 use Rattle.sound.specs.Tiles.{tiled-split, end-le, end-even, end-append, none-out, Place, place, tiles-split}
 use Rattle.sound.specs.Frames.{end-all}
-use Rattle.sound.specs.Edits.{tiles-at, tiled-tiles}
+use Rattle.sound.specs.Apart.{tiled-tiles, tiles-at}
 use Rattle.primitives.specs.Follow.{Ok}
 use Rattle.primitives.specs.Chunks.{Inside}
 

@@ -19,7 +19,8 @@ use Rattle.machine.specs.Resize.{nextP, finish}
 use Rattle.machine.specs.View.{sizeAt}
 use Rattle.sound.specs.Relation.{Mem, Loose, Good}
 use Rattle.sound.specs.Tiles.{start, starts-once, Place, place}
-use Rattle.sound.specs.Edits.{snoc-end, top-mid, Kept, tiled-tiles, trim-is, trim-kept, size-place}
+use Rattle.sound.specs.Apart.{tiled-tiles}
+use Rattle.sound.specs.Edits.{snoc-end, top-mid, Kept, trim-is, trim-kept, size-place}
 use Rattle.sound.specs.RecordOf.{record-tiles}
 use Rattle.sound.specs.Moves.{nil, any, moved-keeps}
 use Rattle.sound.specs.Leaves.{Leaves}
@@ -142,7 +143,7 @@ module _ (h : Heap) (w r : List ℕ) (c z b : ℕ) (o : Ok h w r) (S : Stands h 
     room = omega (arith, S .whole)
 
     kept : Kept h ts w ws
-    kept = trim-kept h w a (S .r) t (S .held .tiles) (o .shape) b b16 b32 room (o .mem)
+    kept = trim-kept h w a (S .r) t (S .held .tiles) (o .shape) b b16 b32 room (o .mem) (S .held .loose)
 
     trim-bytes : v ≡ apply ws w
     trim-bytes =

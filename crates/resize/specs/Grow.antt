@@ -10,7 +10,8 @@ use Rattle.machine.specs.Writes.{size, put}
 use Rattle.machine.specs.Primitives.{growTop}
 use Rattle.sound.specs.Relation.{tiled}
 use Rattle.sound.specs.Tiles.{tiled-split, end-le, end-append, Place, place}
-use Rattle.sound.specs.Edits.{snoc-end, tiled-tiles, grow-is, size-place}
+use Rattle.sound.specs.Apart.{tiled-tiles}
+use Rattle.sound.specs.Edits.{snoc-end, grow-is, size-place}
 use Rattle.sound.specs.RecordOf.{record-withTiles}
 use Rattle.primitives.specs.Follow.{Ok, Gave}
 use Rattle.primitives.specs.FollowLaws.{gave-by, ok-len}

@@ -14,7 +14,7 @@ use Rattle.machine.specs.Resize.{copiesFrom, copies, moved}
 use Rattle.machine.specs.declared.{Got.Got, Got.the-variants.At, Got.the-variants.Nothing}
 use Rattle.sound.specs.Relation.{Mem, Loose, Good}
 use Rattle.sound.specs.Tiles.{starts-once}
-use Rattle.sound.specs.Edits.{tiled-tiles}
+use Rattle.sound.specs.Apart.{tiled-tiles}
 use Rattle.sound.specs.Moves.{nil}
 use Rattle.sound.specs.Leaves.{Leaves, gave, Found}
 use Rattle.sound.specs.Copies.{copies-mem}

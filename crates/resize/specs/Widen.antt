@@ -77,7 +77,7 @@ module _ (h : Heap) (w r : List ℕ) (c z b : ℕ) (o : Ok h w r) (W : Widens h 
       ws = size (endFrom 0 (W .a)) (W .t .size + W .u .size) (W .t .p) ∷ []
 
       kept : Kept h ts w ws
-      kept = widen-kept h w a (W .r) t u (W .beside .tiles) (o .shape) (o .mem) (W .beside .behind)
+      kept = widen-kept h w a (W .r) t u (W .beside .tiles) (o .shape) (o .mem) (W .beside .loose) (W .beside .behind)
 
       widen-bytes : v ≡ apply ws w
       widen-bytes =

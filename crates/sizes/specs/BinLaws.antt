@@ -95,6 +95,13 @@ pub binOf-large : (s : ℕ) → 1024 ≤ s → 64 ≤ binOf s
 unfolding binOf largeBin
 binOf-large s h = bin-monotone 1024 s h
 
+pub binOf-narrow : (s : ℕ) → s < 1024 → binOf s < 64
+binOf-narrow s h = binOf-cases (λ j. j < 64) s (λ a. omega arith) (λ a b. omega arith) (λ a. absurd (omega arith))
+
+-- a chunk of such a bin is large
+pub binOf-wide : (s : ℕ) → 64 ≤ binOf s → 1024 ≤ s
+binOf-wide s = binOf-cases (λ j. 64 ≤ j → 1024 ≤ s) s (λ a z. absurd (omega (arith, z))) (λ a b z. absurd (omega (arith, z))) (λ a z. a)
+
 pub binOf-bounds : (s : ℕ) → 32 ≤ s → (2 ≤ binOf s) × (binOf s ≤ 126)
 unfolding binOf largeBin
 binOf-bounds s h = (bin-monotone 32 s h, binOf-most s)

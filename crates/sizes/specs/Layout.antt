@@ -34,7 +34,7 @@ abbrev pub keyHigh : ℕ
 keyHigh = 394
 
 -- ---- the arena's 8-byte words: the chunk at c has its previous size at c, its size word at c + 8, its links at c + 16 and c + 24;
--- in a cache list the key stands at c + 24, where a bin has the back link
+-- in a cache list the key stands at c + 24, where a bin has the back link; a chunk of 1,024 bytes or more has skip links at c + 32 and c + 40
 abbrev pub prevWord : ℕ → ℕ
 prevWord c = c / 8
 
@@ -49,3 +49,9 @@ backWord c = c / 8 + 3
 
 abbrev pub keyWord : ℕ → ℕ
 keyWord c = c / 8 + 3
+
+abbrev pub skipFwdWord : ℕ → ℕ
+skipFwdWord c = c / 8 + 4
+
+abbrev pub skipBackWord : ℕ → ℕ
+skipBackWord c = c / 8 + 5

@@ -37,12 +37,15 @@ consolidateFrom = 65536
 abbrev pub fastLists : ℕ
 fastLists = 10
 
--- the smallest large size, the unsorted bin, and the last bin
+-- the smallest large size, the unsorted bin, the first bin of large chunks, and the last bin
 abbrev pub large : ℕ
 large = 1024
 
 abbrev pub unsorted : ℕ
 unsorted = 1
+
+abbrev pub firstLarge : ℕ
+firstLarge = 64
 
 abbrev pub lastBin : ℕ
 lastBin = 126
@@ -56,7 +59,7 @@ recordBytes = 1580
 
 -- the newest version of the rules, and of an image
 abbrev pub newest : ℕ
-newest = 2
+newest = 3
 
 -- no chunk: as a link in the arena, and as a word of the record
 abbrev pub none64 : ℕ

@@ -48,7 +48,7 @@ pub const RECORD_WORDS: usize = 395;
 pub const RECORD_BYTES: usize = 1580;
 
 // The newest version of the rules, and of an image.
-pub const NEWEST: u32 = 2;
+pub const NEWEST: u32 = 3;
 
 // No chunk: as a link in the arena, and as a word of the record.
 pub const NONE64: u64 = 18446744073709551615;

@@ -17,7 +17,8 @@ use Rattle.machine.specs.Writes.{Write, apply, Ran, ran, heapOf, writes, giving
 use Rattle.machine.specs.Release.{joinNext, putDown, join, consolidate, joined, releasePast, release}
 use Rattle.sound.specs.Relation.{tiled, Mem, Loose, Good}
 use Rattle.sound.specs.Tiles.{tiled-split, end-le, end-append, starts-append}
-use Rattle.sound.specs.Edits.{tiles-at, size-at, snoc-end, snoc-tiles, tiled-tiles, clear-is, to-top-is}
+use Rattle.sound.specs.Apart.{size-at, tiled-tiles, tiles-at}
+use Rattle.sound.specs.Edits.{snoc-end, snoc-tiles, clear-is, to-top-is}
 use Rattle.sound.specs.Join.{Joining, gap-here, next-ends, down-top, down-bin, join-here}
 use Rattle.sound.specs.JoinLeaves.{join-leaves}
 use Rattle.sound.specs.Drain.{NoFast, consolidate-leaves}

@@ -16,10 +16,11 @@ use Rattle.machine.specs.Primitives.{putFirst, unlink, setP, setNote, cutAt, cu
 use Rattle.machine.specs.Grant.{split}
 use Rattle.sound.specs.Relation.{tiled, Mem, Shape, Loose, flags, Homes, Good}
 use Rattle.sound.specs.Tiles.{tiled-split, end-append, starts-append, none-out, starts-once}
+use Rattle.sound.specs.Apart.{size-at, sizes-mid, tiled-tiles}
 use Rattle.sound.specs.Lists.{unlink-shape, unlink-loose, link-shape, link-mem}
-use Rattle.sound.specs.Edits.{size-at, snoc-end, snoc-tiles, all-mid, Kept, tiled-tiles, set-is, set-kept, note-is, note-kept, cut-is, cut-kept, cut-top-kept}
+use Rattle.sound.specs.Edits.{snoc-end, snoc-tiles, all-mid, Kept, set-is, set-kept, note-is, note-kept, cut-is, cut-kept, cut-top-kept}
 use Rattle.sound.specs.Flags.{lastB, lastS, flags-split, flags-join, flags-below, lastB-below, flags-above}
-use Rattle.sound.specs.Homes.{homes-tiles, sizes-mid, homes-unlink, homes-link, homes-same}
+use Rattle.sound.specs.Homes.{homes-tiles, homes-unlink, homes-link, homes-same}
 use Rattle.sound.specs.Ends.{Ends, ends-more, ends-by}
 use Rattle.sound.specs.Join.{binned-unlink, binned-link}
 
@@ -145,7 +146,7 @@ module _ (h : Heap) (w : List ℕ) (a r : List Tile) (t u : Tile) (n : ℕ) (O :
       let ts₁ : List Tile = a ++ A₁ ∷ B₁ ∷ u ∷ r in
       let h₁ : Heap = withTiles ts₁ h in
       let ws : List Write = size c n 1 ∷ size (c + n) z 1 ∷ [] in
-      let K₁ : Kept h ts₁ w ws = cut-kept h w a (u ∷ r) t (O .tiles) s n n16 n32 nt k in
+      let K₁ : Kept h ts₁ w ws = cut-kept h w a (u ∷ r) t (O .tiles) s n n16 n32 nt k (O .loose) in
       let a₂ : List Tile = a ++ A₁ ∷ B₁ ∷ [] in
       let e₂ : ts₁ ≡ a₂ ++ u ∷ r = sym (append-assoc a (A₁ ∷ B₁ ∷ []) (u ∷ r)) in
       let x : ℕ = endFrom 0 a₂ in
@@ -188,10 +189,10 @@ module _ (h : Heap) (w : List ℕ) (a r : List Tile) (t u : Tile) (n : ℕ) (O :
       ends-by
       (split-is c n x z h h₁ h₂ ws vs en (ap (λ (y : ℕ). y - n) sz) (cut-is h w a (u ∷ r) t (O .tiles) s n) (note-is h₁ v a₂ r u e₂ (K₁ .shape) z))
       (ends-more ws (more vs (putFirst unsorted (c + n) h₂)) (ends-more vs (putFirst unsorted (c + n) h₂) (record {
-        mem = link-mem h₂ (apply vs v) 1 (c + n) [] (bin h₂ 1) (K₂ .shape) (K₂ .mem) j1 lo refl;
+        mem = link-mem h₂ (apply vs v) 1 (c + n) [] (bin h₂ 1) (K₂ .shape) (K₂ .mem) j1 lo refl (λ z. absurd (omega (arith, z)));
         now = (
           record {
-            shape = link-shape h₂ 1 (c + n) [] (bin h₂ 1) (K₂ .shape) j1 lo refl;
+            shape = link-shape h₂ 1 (c + n) [] (bin h₂ 1) (K₂ .shape) j1 lo refl (λ z. absurd (omega (arith, z)));
             homes = homes-link h₂ 1 (c + n) [] (bin h₂ 1) (omega arith) j1 refl (λ i. absurd (omega (arith, i))) (λ i. absurd (omega (arith, i)))
                 (homes-same h₁ a₂ r u U e₂ (K₁ .shape) refl (f .1 .3 .2)
                 (homes-tiles h ts₁
@@ -230,13 +231,13 @@ remainder-good h c g =
     let s = g .shape in
     let o = g .homes in
     record {
-      shape = record { small = s .small; sizes = s .sizes; stacked74 = s .stacked74; binned127 = s .binned127; own = s .own };
+      shape = record { small = s .small; sizes = s .sizes; stacked74 = s .stacked74; binned127 = s .binned127; own = s .own; roomy = s .roomy };
       homes = record { stacked = o .stacked; quick = o .quick; short = o .short; none = o .none; sorted = o .sorted; falling = o .falling };
       flag = g .flag;
     }
 
 pub remainder-mem : (h : Heap) (w : List ℕ) (c : ℕ) → Mem h w → Mem (withRemainder c h) w
-remainder-mem h w c m = record { long = m .long; words = m .words; chains = m .chains; blinks = m .blinks; keys = m .keys; key64 = m .key64 }
+remainder-mem h w c m = record { long = m .long; words = m .words; chains = m .chains; blinks = m .blinks; keys = m .keys; key64 = m .key64; skipped = m .skipped }
 
 -- ---- n is cut off the top
 pub top-ends : (h : Heap) (w : List ℕ) (n : ℕ) → Good h → Mem h w → n % 16 ≡ 0 → 32 ≤ n → n + 32 ≤ topSize h

@@ -16,8 +16,9 @@ use Rattle.machine.specs.Resize.{copiesFrom, copies}
 use Rattle.sound.specs.Relation.{Mem, Loose, Good}
 use Rattle.sound.specs.Tiles.{lt-or-le, tiled-split, start}
 use Rattle.sound.specs.Frames.{starts-all, apply-length, Within, outside}
-use Rattle.sound.specs.Edits.{tiled-tiles, size-16, size-32}
-use Rattle.sound.specs.Spares.{Spares, Past, clear-of, chunks-apart}
+use Rattle.sound.specs.Apart.{chunks-apart, clear-of, tiled-tiles}
+use Rattle.sound.specs.Edits.{size-16, size-32}
+use Rattle.sound.specs.Spares.{Spares, Past}
 use Rattle.sound.specs.Usable.{agrees-mem}
 use Rattle.sound.specs.Moves.{one, any, Moved, one-not}
 

@@ -2,27 +2,23 @@
 -- another's place (mid). Assumes nothing.
 use mathlib.Core.Path.{_≡_, refl, sym, ap, _∙_, subst}
 use mathlib.Core.List.{List, [], _∷_, _++_, append-assoc, append-nil}
-use mathlib.Core.Logic.{⊎-elim}
+use mathlib.Core.Logic.{inl, inr, ⊎-elim}
 use Prim.Native.Nat.{ℕ, _+_, _-_, _/_, _%_, _≤_, _<_}
 use native.Mathlib.Omega.{arith}
 use lib.ListN.{length, getD}
 use Rattle.sizes.specs.Layout.{prevWord}
 use Rattle.machine.specs.Lists.{cnt}
-use Rattle.machine.specs.Count.{eq?, ind-other, cnt-here, cnt-there}
+use Rattle.machine.specs.Count.{eq?, ind-other, cnt-here, cnt-there, cnt-le-all}
 use Rattle.machine.specs.Heap.{Tile, tile, Heap, withTiles, endFrom, startsFrom, upTo, since, hdSize, topOf, topSize, starts, sizeOf, total}
 use Rattle.machine.specs.Writes.{Write, who, put, apply, does, size, note}
 use Rattle.machine.specs.Primitives.{swallow, clearP, setP, setNote, cutAt, toTop, widen, trimAt, growTop}
 use Rattle.sound.specs.Relation.{all, tiled, tilesAt, Mem, Shape}
 use Rattle.sound.specs.Tiles.{zero-or, tiled-split, tiled-join, end-even, end-append, starts-append, Start, start, up-to, since-at, Place, place, tiles-split}
+use Rattle.sound.specs.Apart.{size-at, sizes-mid, sizes-same, tiled-tiles, tiles-at}
+use Rattle.sound.specs.Rings.{head-low-w, low-skips, skips-tiles}
 use Rattle.sound.specs.Frames.{end-all, Starts, Grid, grid, put-length, put-other, put-same, HeadW, retile, Within, words-mid}
 
 -- ---- what stands at the end of a
-pub tiles-at : (h : Heap) (a r : List Tile) → h .tiles ≡ a ++ r → tiled a → (upTo 0 (endFrom 0 a) (h .tiles) ≡ a) × (since 0 (endFrom 0 a) (h .tiles) ≡ r)
-tiles-at h a r e f = (rw e (up-to 0 a r f), rw e (since-at 0 a r f))
-
-pub size-at : (h : Heap) (a z : List Tile) (t : Tile) → h .tiles ≡ a ++ t ∷ z → tiled a → sizeOf h (endFrom 0 a) ≡ t .size
-size-at h a z t e f = ap hdSize (tiles-at h a (t ∷ z) e f .1)
-
 pub snoc-end : (a : List Tile) (t : Tile) → endFrom 0 (a ++ t ∷ []) ≡ endFrom 0 a + t .size
 snoc-end a t = end-append 0 a (t ∷ [])
 
@@ -71,8 +67,9 @@ head-more L M (e ∷ ws) s k = (k .0, s (who e) (k .1), head-more L M ws s (k .2
 
 pub mid-mem : (h : Heap) (w : List ℕ) (ts a m n z : List Tile) (ws : List Write) → Shape h → Mem h w → Shape (withTiles ts h)
     → all h ≡ a ++ (m ++ z) → all (withTiles ts h) ≡ a ++ (n ++ z) → endFrom (endFrom 0 a) m ≡ endFrom (endFrom 0 a) n
+    → ((x : ℕ) → 1 ≤ total x h → sizeOf (withTiles ts h) x ≡ sizeOf h x)
     → HeadW (startsFrom (endFrom 0 a) n) ws → tilesAt (apply ws w) (endFrom 0 a) n → Mem (withTiles ts h) (apply ws w)
-mid-mem h w ts a m n z ws s k s′ e e′ q hw kn =
+mid-mem h w ts a m n z ws s k s′ e e′ q same hw kn =
     let c : ℕ = endFrom 0 a in
     let f : tiled (a ++ (m ++ z)) = subst tiled e (s .sizes) in
     let fa : tiled a × tiled (m ++ z) = tiled-split a (m ++ z) f in
@@ -81,14 +78,16 @@ mid-mem h w ts a m n z ws s k s′ e e′ q hw kn =
     let st : (x : ℕ) → cnt x (Starts (withTiles ts h)) ≡ cnt x (startsFrom 0 a) + (cnt x (startsFrom c n) + cnt x (startsFrom (endFrom c n) z))
     = λ x. ap (λ (l : List Tile). cnt x (startsFrom 0 l)) e′ ∙ starts-append 0 a (n ++ z) x
     ∙ ap (λ (i : ℕ). cnt x (startsFrom 0 a) + i) (starts-append c n z x) in
-    retile h w ts ws k s′
-    (head-more (startsFrom c n) (Starts (withTiles ts h)) ws (λ x i. omega (arith, st x)) hw)
+    let hw′ : HeadW (Starts (withTiles ts h)) ws = head-more (startsFrom c n) (Starts (withTiles ts h)) ws (λ x i. omega (arith, st x)) hw in
+    retile h w ts ws k s′ hw′
     (subst (tilesAt (apply ws w) 0) (sym e′)
     (words-mid w ws a m n z f (fn .0) q (rw q (head-within c n ws ce (fn .0) hw)) kn (subst (tilesAt w 0) e (k .words))))
+    (low-skips (withTiles ts h) s′ ws w (head-low-w (withTiles ts h) s′ ws hw′) (skips-tiles h ts w same (k .skipped (omega arith))))
 
 pub mid-shape : (h : Heap) (ts a m n z : List Tile) → Shape h → all h ≡ a ++ (m ++ z) → all (withTiles ts h) ≡ a ++ (n ++ z) → tiled n
-    → ((x : ℕ) → 1 ≤ total x h → cnt x (starts h) ≤ cnt x (startsFrom 0 ts)) → Shape (withTiles ts h)
-mid-shape h ts a m n z s e e′ fn keep =
+    → ((x : ℕ) → 1 ≤ total x h → cnt x (starts h) ≤ cnt x (startsFrom 0 ts)) → ((x : ℕ) → 1 ≤ total x h → sizeOf (withTiles ts h) x ≡ sizeOf h x)
+    → Shape (withTiles ts h)
+mid-shape h ts a m n z s e e′ fn keep same =
     let fa : tiled a × tiled (m ++ z) = tiled-split a (m ++ z) (subst tiled e (s .sizes)) in
     let fm : tiled m × tiled z = tiled-split m z (fa .1) in
     record {
@@ -98,6 +97,7 @@ mid-shape h ts a m n z s e e′ fn keep =
           s .stacked74;
       binned127 = s .binned127;
       own = λ x. ⊎-elim (λ z. omega arith) (λ z. omega (arith, keep x z, s .own x)) (zero-or (total x h));
+      roomy = λ j x z m. omega (arith, same x (omega (arith, cnt-le-all x (h .bins) j)), s .roomy j x z m);
     }
 
 -- what an edit of the tiles leaves
@@ -108,26 +108,23 @@ pub record Kept (h : Heap) (ts : List Tile) (w : List ℕ) (ws : List Write) : T
 -- the whole of it: what is left to show is the middle's own words
 pub mid : (h : Heap) (w : List ℕ) (ts a m n z : List Tile) (ws : List Write) → Shape h → Mem h w
     → (all h ≡ a ++ (m ++ z)) × (all (withTiles ts h) ≡ a ++ (n ++ z)) → tiled n → endFrom (endFrom 0 a) m ≡ endFrom (endFrom 0 a) n
-    → ((x : ℕ) → 1 ≤ total x h → cnt x (starts h) ≤ cnt x (startsFrom 0 ts))
+    → ((x : ℕ) → 1 ≤ total x h → cnt x (starts h) ≤ cnt x (startsFrom 0 ts)) → ((x : ℕ) → 1 ≤ total x h → sizeOf (withTiles ts h) x ≡ sizeOf h x)
     → HeadW (startsFrom (endFrom 0 a) n) ws
     → ((S : List ℕ) → Grid S (length w) → ((x : ℕ) → 1 ≤ cnt x (startsFrom (endFrom 0 a) n) → 1 ≤ cnt x S) → tilesAt w (endFrom 0 a) m
     → tilesAt (apply ws w) (endFrom 0 a) n)
     → Kept h ts w ws
-mid h w ts a m n z ws s k E fn q keep hw own =
+mid h w ts a m n z ws s k E fn q keep same hw own =
     let c : ℕ = endFrom 0 a in
     let h′ : Heap = withTiles ts h in
-    let sh : Shape h′ = mid-shape h ts a m n z s (E .0) (E .1) fn keep in
+    let sh : Shape h′ = mid-shape h ts a m n z s (E .0) (E .1) fn keep same in
     let ka : tilesAt w 0 a × tilesAt w c (m ++ z) = tiles-split w 0 a (m ++ z) (subst (tilesAt w 0) (E .0) (k .words)) in
     record {
       shape = sh;
-      mem = mid-mem h w ts a m n z ws s k sh (E .0) (E .1) q hw
+      mem = mid-mem h w ts a m n z ws s k sh (E .0) (E .1) q same hw
           (own (Starts h′) (grid h′ (length w) (sh .sizes) (k .long))
           (λ x i. omega (arith, ap (λ (l : List Tile). cnt x (startsFrom 0 l)) (E .1), starts-append 0 a (n ++ z) x, starts-append c n z x))
           (tiles-split w c m z (ka .1) .0));
     }
-
-pub tiled-tiles : (h : Heap) → Shape h → tiled (h .tiles)
-tiled-tiles h s = tiled-split (h .tiles) (tile (topSize h) 1 0 ∷ []) (s .sizes) .0
 
 zeroth : (v : List ℕ) (c : ℕ) → getD v (prevWord c) 0 ≡ getD v (c / 8 + 0) 0
 zeroth v c = ap (λ (i : ℕ). getD v i 0) (let e : c / 8 ≡ c / 8 + 0 = omega arith in e)
@@ -170,9 +167,9 @@ module _ (h : Heap) (w : List ℕ) (a z : List Tile) (t u : Tile) (e : h .tiles 
       let p = tiles-at h a (t ∷ u ∷ z) e (f .0) in
       rw (p .0, p .1) (rw (size-next h a z t u e (tiled-join a (t ∷ []) (f .0) (f .1 .0, f .1 .1, f .1 .2, tt))))
 
-  whole-kept : (p n : ℕ) → p ≤ 1 → (p ≡ 0 → (t .p ≡ 0) × (t .prev ≡ n)) → Mem h w → total (endFrom 0 a + t .size) h ≡ 0
+  whole-kept : (p n : ℕ) → p ≤ 1 → (p ≡ 0 → (t .p ≡ 0) × (t .prev ≡ n)) → Mem h w → total (endFrom 0 a) h ≡ 0 → total (endFrom 0 a + t .size) h ≡ 0
       → Kept h (a ++ tile (t .size + u .size) p n ∷ z) w (size (endFrom 0 a) (t .size + u .size) p ∷ [])
-  whole-kept p n p1 own k lo =
+  whole-kept p n p1 own k tc lo =
       let f = fa in
       let c : ℕ = endFrom 0 a in
       let U : Tile = tile (t .size + u .size) p n in
@@ -192,15 +189,19 @@ module _ (h : Heap) (w : List ℕ) (a z : List Tile) (t u : Tile) (e : h .tiles 
         ap (λ (o : ℕ). cnt x (startsFrom o z)) ez,
       ))
       (eq? x (c + t .size)))
+      (λ x i. sizes-mid h (a ++ U ∷ z) a (t ∷ u ∷ []) (U ∷ []) z x s (tiled-tiles h s) (omega (arith, f .1 .0, f .1 .3 .0), omega (arith, f .1 .1), p1, tt) e refl
+      (inl (omega arith)) i
+      (omega (arith, ind-other x c (λ q. omega (arith, ap (λ (y : ℕ). total y h) q)), ind-other x (c + t .size) (λ q. omega (arith, ap (λ (y : ℕ). total y h) q)))))
       (omega arith, cnt-here c [], tt)
       (λ S g sub old. one-word S w g c (sub c (cnt-here c [])) p n (λ q. old .1 (own q .0) ∙ own q .1) (t .size + u .size))
 
-  pub swallow-kept : Mem h w → total (endFrom 0 a + t .size) h ≡ 0 → Kept h (a ++ tile (t .size + u .size) 1 0 ∷ z) w (size (endFrom 0 a) (t .size + u .size) 1 ∷ [])
-  swallow-kept k lo = whole-kept 1 0 (omega arith) (λ q. absurd (omega (arith, q))) k lo
+  pub swallow-kept : Mem h w → total (endFrom 0 a) h ≡ 0 → total (endFrom 0 a + t .size) h ≡ 0
+      → Kept h (a ++ tile (t .size + u .size) 1 0 ∷ z) w (size (endFrom 0 a) (t .size + u .size) 1 ∷ [])
+  swallow-kept k tc lo = whole-kept 1 0 (omega arith) (λ q. absurd (omega (arith, q))) k tc lo
 
-  pub widen-kept : Mem h w → total (endFrom 0 a + t .size) h ≡ 0
+  pub widen-kept : Mem h w → total (endFrom 0 a) h ≡ 0 → total (endFrom 0 a + t .size) h ≡ 0
       → Kept h (a ++ tile (t .size + u .size) (t .p) (t .prev) ∷ z) w (size (endFrom 0 a) (t .size + u .size) (t .p) ∷ [])
-  widen-kept k lo = whole-kept (t .p) (t .prev) (fa .1 .2) (λ q. (q, refl)) k lo
+  widen-kept k tc lo = whole-kept (t .p) (t .prev) (fa .1 .2) (λ q. (q, refl)) k tc lo
 
 -- ---- P and the note of a chunk; a chunk is cut
 module _ (h : Heap) (w : List ℕ) (a z : List Tile) (u : Tile) (e : h .tiles ≡ a ++ u ∷ z) (s : Shape h) where
@@ -219,6 +220,7 @@ module _ (h : Heap) (w : List ℕ) (a z : List Tile) (u : Tile) (e : h .tiles �
       let l1 : length w1 ≡ length w = put-length (size c (u .size) 0) w in
       mid h w (a ++ U ∷ z) a (u ∷ []) (U ∷ []) (z ++ tile (topSize h) 1 0 ∷ []) (size c (u .size) 0 ∷ note c n ∷ []) s k
       (all-mid h a (u ∷ []) (U ∷ []) z e refl) (f .1 .0, f .1 .1, omega arith, tt) refl (λ x i. omega (arith, same-starts h a z u U e refl x))
+      (λ x i. sizes-same h a z u U x e s refl (omega arith) (omega (arith, s .own x)))
       (omega arith, cnt-here c [], (omega arith, cnt-here c [], tt))
       (λ S g sub old.
       let mc : 1 ≤ cnt c S = sub c (cnt-here c []) in (
@@ -237,6 +239,7 @@ module _ (h : Heap) (w : List ℕ) (a z : List Tile) (u : Tile) (e : h .tiles �
       let U : Tile = tile (u .size) 1 0 in
       mid h w (a ++ U ∷ z) a (u ∷ []) (U ∷ []) (z ++ tile (topSize h) 1 0 ∷ []) (size c (u .size) 1 ∷ []) s k
       (all-mid h a (u ∷ []) (U ∷ []) z e refl) (f .1 .0, f .1 .1, omega arith, tt) refl (λ x i. omega (arith, same-starts h a z u U e refl x))
+      (λ x i. sizes-same h a z u U x e s refl (omega arith) (omega (arith, s .own x)))
       (omega arith, cnt-here c [], tt)
       (λ S g sub old. (put-same S (length w) g (size c (u .size) 1) (omega arith) w refl (sub c (cnt-here c [])), (λ p. absurd (omega (arith, p))), tt))
 
@@ -250,6 +253,7 @@ module _ (h : Heap) (w : List ℕ) (a z : List Tile) (u : Tile) (e : h .tiles �
       let U : Tile = tile (u .size) (u .p) n in
       mid h w (a ++ U ∷ z) a (u ∷ []) (U ∷ []) (z ++ tile (topSize h) 1 0 ∷ []) (note c n ∷ []) s k
       (all-mid h a (u ∷ []) (U ∷ []) z e refl) (f .1 .0, f .1 .1, f .1 .2, tt) refl (λ x i. omega (arith, same-starts h a z u U e refl x))
+      (λ x i. sizes-same h a z u U x e s refl (f .1 .2) (omega (arith, s .own x)))
       (omega arith, cnt-here c [], tt)
       (λ S g sub old.
       let mc : 1 ≤ cnt c S = sub c (cnt-here c []) in (
@@ -263,9 +267,9 @@ module _ (h : Heap) (w : List ℕ) (a z : List Tile) (u : Tile) (e : h .tiles �
       (size (endFrom 0 a) b 1 ∷ size (endFrom 0 a + b) (u .size - b) 1 ∷ [])
   cut-is b = let p = tiles-at h a (u ∷ z) e (fu .0) in rw (p .0, p .1)
 
-  parts-kept : (p n : ℕ) → p ≤ 1 → (p ≡ 0 → (u .p ≡ 0) × (u .prev ≡ n)) → (b : ℕ) → b % 16 ≡ 0 → 32 ≤ b → b + 32 ≤ u .size → Mem h w
+  parts-kept : (p n : ℕ) → p ≤ 1 → (p ≡ 0 → (u .p ≡ 0) × (u .prev ≡ n)) → (b : ℕ) → b % 16 ≡ 0 → 32 ≤ b → b + 32 ≤ u .size → Mem h w → total (endFrom 0 a) h ≡ 0
       → Kept h (a ++ tile b p n ∷ tile (u .size - b) 1 0 ∷ z) w (size (endFrom 0 a) b p ∷ size (endFrom 0 a + b) (u .size - b) 1 ∷ [])
-  parts-kept p n p1 own b b16 b32 bu k =
+  parts-kept p n p1 own b b16 b32 bu k tc =
       let f = fu in
       let c : ℕ = endFrom 0 a in
       let U : List Tile = tile b p n ∷ tile (u .size - b) 1 0 ∷ [] in
@@ -282,10 +286,13 @@ module _ (h : Heap) (w : List ℕ) (a z : List Tile) (u : Tile) (e : h .tiles �
             (tile b p n ∷ tile (u .size - b) 1 0 ∷ z) x,
         ap (λ (o : ℕ). cnt x (startsFrom o z)) ez,
       ))
+      (λ x i. sizes-mid h (a ++ tile b p n ∷ tile (u .size - b) 1 0 ∷ z) a (u ∷ []) U z x s (tiled-tiles h s)
+      (b16, b32, p1, (omega (arith, f .1 .0), omega arith, omega arith, tt)) e refl (inl (sym ez)) i
+      (omega (arith, ind-other x c (λ q. omega (arith, ap (λ (y : ℕ). total y h) q)))))
       (omega arith, i1, (omega arith, i2, tt))
       (λ S g sub old. two-words S w g c (sub c i1) p n (λ q. old .1 (own q .0) ∙ own q .1) b (u .size - b) (omega arith) (sub (c + b) i2))
 
-  pub cut-kept : (b : ℕ) → b % 16 ≡ 0 → 32 ≤ b → b + 32 ≤ u .size → Mem h w
+  pub cut-kept : (b : ℕ) → b % 16 ≡ 0 → 32 ≤ b → b + 32 ≤ u .size → Mem h w → total (endFrom 0 a) h ≡ 0
       → Kept h (a ++ tile b 1 0 ∷ tile (u .size - b) 1 0 ∷ z) w (size (endFrom 0 a) b 1 ∷ size (endFrom 0 a + b) (u .size - b) 1 ∷ [])
   cut-kept = parts-kept 1 0 (omega arith) (λ q. absurd (omega (arith, q)))
 
@@ -293,7 +300,7 @@ module _ (h : Heap) (w : List ℕ) (a z : List Tile) (u : Tile) (e : h .tiles �
       (size (endFrom 0 a) b (u .p) ∷ size (endFrom 0 a + b) (u .size - b) 1 ∷ [])
   trim-is b = let p = tiles-at h a (u ∷ z) e (fu .0) in rw (p .0, p .1)
 
-  pub trim-kept : (b : ℕ) → b % 16 ≡ 0 → 32 ≤ b → b + 32 ≤ u .size → Mem h w
+  pub trim-kept : (b : ℕ) → b % 16 ≡ 0 → 32 ≤ b → b + 32 ≤ u .size → Mem h w → total (endFrom 0 a) h ≡ 0
       → Kept h (a ++ tile b (u .p) (u .prev) ∷ tile (u .size - b) 1 0 ∷ z) w (size (endFrom 0 a) b (u .p) ∷ size (endFrom 0 a + b) (u .size - b) 1 ∷ [])
   trim-kept = parts-kept (u .p) (u .prev) (fu .1 .2) (λ q. (q, refl))
 
@@ -319,15 +326,18 @@ to-top-kept h w a t e s k lo =
     (λ z. absurd (omega (arith, ap (λ (y : ℕ). total y h) z)))
     (λ z. omega (arith, ap (λ (l : List Tile). cnt x (startsFrom 0 l)) e, starts-append 0 a (t ∷ []) x, ind-other x c z))
     (eq? x c))
+    (λ x i. sizes-mid h a a (t ∷ []) [] [] x s (tiled-tiles h s) tt e (sym (append-nil a)) (inr refl) i
+    (omega (arith, ind-other x c (λ q. omega (arith, ap (λ (y : ℕ). total y h) q)))))
     (omega arith, cnt-here c [], tt)
     (λ S g sub old. (put-same S (length w) g (size c (h .len - c) 1) (omega arith) w refl (sub c (cnt-here c [])), (λ p. absurd (omega (arith, p))), tt))
 
 -- the tiles m at the end, the top among them, become a chunk of b and a top
 end-kept : (h : Heap) (w : List ℕ) (a m : List Tile) (b p n : ℕ) → Shape h → Mem h w → all h ≡ a ++ m → b % 16 ≡ 0 → 32 ≤ b → p ≤ 1
     → endFrom 0 a + b + 32 ≤ h .len → ((x : ℕ) → cnt x (starts h) ≤ cnt x (startsFrom 0 (a ++ tile b p n ∷ [])))
+    → ((x : ℕ) → 1 ≤ total x h → sizeOf (withTiles (a ++ tile b p n ∷ []) h) x ≡ sizeOf h x)
     → (tilesAt w (endFrom 0 a) m → p ≡ 0 → getD w (prevWord (endFrom 0 a)) 0 ≡ n)
     → Kept h (a ++ tile b p n ∷ []) w (size (endFrom 0 a) b p ∷ size (endFrom 0 a + b) (h .len - (endFrom 0 a + b)) 1 ∷ [])
-end-kept h w a m b p n s k e b16 b32 p1 room keep own =
+end-kept h w a m b p n s k e b16 b32 p1 room keep same own =
     let c : ℕ = endFrom 0 a in
     let z : ℕ = h .len - (c + b) in
     let fa : tiled a × tiled m = tiled-split a m (subst tiled e (s .sizes)) in
@@ -338,7 +348,7 @@ end-kept h w a m b p n s k e b16 b32 p1 room keep own =
     mid h w (a ++ tile b p n ∷ []) a m (tile b p n ∷ tile z 1 0 ∷ []) [] (size c b p ∷ size (c + b) z 1 ∷ []) s k
     (e ∙ ap (λ (l : List Tile). a ++ l) (sym (append-nil m)), rw (snoc-end a (tile b p n)) (snoc-tiles a (tile z 1 0 ∷ []) (tile b p n)))
     (b16, b32, p1, (omega (arith, end-even 0 a refl (fa .0)), omega arith, omega arith, tt)) (omega (arith, len))
-    (λ x i. keep x)
+    (λ x i. keep x) same
     (omega arith, i1, (omega arith, i2, tt))
     (λ S g sub old. two-words S w g c (sub c i1) p n (own old) b z (omega arith) (sub (c + b) i2))
 
@@ -346,7 +356,9 @@ pub cut-top-kept : (h : Heap) (w : List ℕ) (b : ℕ) → Shape h → Mem h w �
     → Kept h (h .tiles ++ tile b 1 0 ∷ []) w (size (topOf h) b 1 ∷ size (topOf h + b) (h .len - (topOf h + b)) 1 ∷ [])
 cut-top-kept h w b s k b16 b32 bu =
     end-kept h w (h .tiles) (tile (topSize h) 1 0 ∷ []) b 1 0 s k refl b16 b32 (omega arith) (omega arith)
-    (λ x. omega (arith, starts-append 0 (h .tiles) (tile b 1 0 ∷ []) x)) (λ o q. absurd (omega (arith, q)))
+    (λ x. omega (arith, starts-append 0 (h .tiles) (tile b 1 0 ∷ []) x))
+    (λ x i. sizes-mid h (h .tiles ++ tile b 1 0 ∷ []) (h .tiles) [] (tile b 1 0 ∷ []) [] x s (tiled-tiles h s) (b16, b32, omega arith, tt) (sym (append-nil (h .tiles))) refl
+    (inr refl) i refl) (λ o q. absurd (omega (arith, q)))
 
 -- the last chunk takes from the top
 pub grow-is : (h : Heap) (a : List Tile) (t : Tile) (b : ℕ) → h .tiles ≡ a ++ t ∷ [] → Shape h
@@ -354,10 +366,10 @@ pub grow-is : (h : Heap) (a : List Tile) (t : Tile) (b : ℕ) → h .tiles ≡ a
     (size (endFrom 0 a) b (t .p) ∷ size (endFrom 0 a + b) (h .len - (endFrom 0 a + b)) 1 ∷ [])
 grow-is h a t b e s = let p = tiles-at h a (t ∷ []) e (tiled-split a (t ∷ []) (subst tiled e (tiled-tiles h s)) .0) in rw (p .0, p .1)
 
-pub grow-kept : (h : Heap) (w : List ℕ) (a : List Tile) (t : Tile) (b : ℕ) → h .tiles ≡ a ++ t ∷ [] → Shape h → Mem h w → b % 16 ≡ 0 → 32 ≤ b
-    → endFrom 0 a + b + 32 ≤ h .len
+pub grow-kept : (h : Heap) (w : List ℕ) (a : List Tile) (t : Tile) (b : ℕ) → h .tiles ≡ a ++ t ∷ [] → Shape h → Mem h w → total (endFrom 0 a) h ≡ 0
+    → b % 16 ≡ 0 → 32 ≤ b → endFrom 0 a + b + 32 ≤ h .len
     → Kept h (a ++ tile b (t .p) (t .prev) ∷ []) w (size (endFrom 0 a) b (t .p) ∷ size (endFrom 0 a + b) (h .len - (endFrom 0 a + b)) 1 ∷ [])
-grow-kept h w a t b e s k b16 b32 room =
+grow-kept h w a t b e s k tc b16 b32 room =
     let f : tiled a × tiled (t ∷ []) = tiled-split a (t ∷ []) (subst tiled e (tiled-tiles h s)) in
     end-kept h w a (t ∷ tile (topSize h) 1 0 ∷ []) b (t .p) (t .prev) s k
     (ap (λ (l : List Tile). l ++ tile (topSize h) 1 0 ∷ []) e ∙ snoc-tiles a (tile (topSize h) 1 0 ∷ []) t) b16 b32 (f .1 .2) room
@@ -366,7 +378,9 @@ grow-kept h w a t b e s k b16 b32 room =
       ap (λ (l : List Tile). cnt x (startsFrom 0 l)) e,
       starts-append 0 a (t ∷ []) x,
       starts-append 0 a (tile b (t .p) (t .prev) ∷ []) x,
-    )) (λ o q. o .1 q)
+    ))
+    (λ x i. sizes-mid h (a ++ tile b (t .p) (t .prev) ∷ []) a (t ∷ []) (tile b (t .p) (t .prev) ∷ []) [] x s (tiled-tiles h s) (b16, b32, f .1 .2, tt) e refl (inr refl) i
+    (omega (arith, ind-other x (endFrom 0 a) (λ q. omega (arith, ap (λ (y : ℕ). total y h) q))))) (λ o q. o .1 q)
 
 -- ---- a chunk's size
 pub size-place : (h : Heap) (x : ℕ) → Shape h → (P : Place (h .tiles) 0 x) → (sizeOf h x ≡ P .t .size) × (P .t .size % 16 ≡ 0) × (32 ≤ P .t .size) × (x % 16 ≡ 0)

@@ -18,9 +18,10 @@ use Rattle.machine.specs.Release.{release}
 use Rattle.machine.specs.Resize.{nextP, finish}
 use Rattle.sound.specs.Relation.{tiled, Mem, Shape, Loose, flags, Homes, Good}
 use Rattle.sound.specs.Tiles.{tiled-split, end-le, end-append, starts-append, none-out, starts-once}
-use Rattle.sound.specs.Edits.{size-at, snoc-end, snoc-tiles, top-mid, all-mid, Kept, tiled-tiles, set-is, set-kept, trim-is, trim-kept}
+use Rattle.sound.specs.Apart.{size-at, sizes-mid, tiled-tiles}
+use Rattle.sound.specs.Edits.{snoc-end, snoc-tiles, top-mid, all-mid, Kept, set-is, set-kept, trim-is, trim-kept}
 use Rattle.sound.specs.Flags.{flagsAfter, lastB, lastB-snoc, flags-split, flags-join, flags-after}
-use Rattle.sound.specs.Homes.{homes-tiles, sizes-mid, homes-same}
+use Rattle.sound.specs.Homes.{homes-tiles, homes-same}
 use Rattle.sound.specs.Spares.{Spares, spares-append, spares-then, spares-less}
 use Rattle.sound.specs.Moves.{answerOf, nil, one, any, Moved, moved-keeps, moved-by, set-moved, trim-moved}
 use Rattle.sound.specs.Leaves.{Leaves, leaves-weaken, leaves-by, leaves-none, leaves-giving, leaves-next, leaves-size, leaves-widen}
@@ -192,7 +193,7 @@ module _ (h : Heap) (w : List ℕ) (a : List Tile) (t : Tile) (r : List Tile) (H
       let none : total (c + n) h ≡ 0 = omega (arith, s .own (c + n), no-start nt) in
       let F = flags-split b 0 0 0 a (t ∷ []) (H .low) in
       record {
-        shape = trim-kept h w a r t (H .tiles) s n n16 n32 nt k .shape;
+        shape = trim-kept h w a r t (H .tiles) s n n16 n32 nt k (H .loose) .shape;
         homes = homes-tiles h (a ++ A ∷ B ∷ r)
             (λ y i. sizes-mid h (a ++ A ∷ B ∷ r) a (t ∷ []) (A ∷ B ∷ []) r y s (tiled-tiles h s)
             (n16, n32, f .1 .2, (omega (arith, f .1 .0), omega arith, omega arith, tt)) (H .tiles) refl (inl (omega arith)) i
@@ -231,7 +232,7 @@ module _ (h : Heap) (w : List ℕ) (a : List Tile) (t : Tile) (r : List Tile) (H
   cut-in-place : n + 32 ≤ t .size → InPlace c n (t .p) (one c) h w (trimAt c n h >>= (λ h. rest h))
   cut-in-place nt =
       let s = H .shape in
-      let K = trim-kept h w a r t (H .tiles) s n n16 n32 nt k in
+      let K = trim-kept h w a r t (H .tiles) s n n16 n32 nt k (H .loose) in
       let H₁ = trim-held nt in
       let h₁ : Heap = trimmed in
       let ws : List Write = size c n (t .p) ∷ size (c + n) (t .size - n) 1 ∷ [] in

@@ -12,9 +12,10 @@ use Rattle.sizes.specs.Limits.{none64}
 use Rattle.sizes.specs.Layout.{prevWord}
 use Rattle.machine.specs.Lists.{ind, cnt, cntAll}
 use Rattle.machine.specs.Count.{eq?, cnt-here, cnt-there, cnt-le-all}
-use Rattle.machine.specs.Heap.{Tile, tile, Heap, stack, bin, withTiles, withBin, endFrom, startsFrom, topOf, topSize, starts, total}
+use Rattle.machine.specs.Heap.{Tile, tile, Heap, stack, bin, withTiles, withBin, endFrom, startsFrom, topOf, topSize, starts, sizeOf, total}
 use Rattle.machine.specs.Writes.{Write, who, field, value, put, apply}
-use Rattle.sound.specs.Relation.{all, tiled, tilesAt, chain, links, Mem, Shape}
+use Rattle.machine.specs.Skips.{skips}
+use Rattle.sound.specs.Relation.{all, tiled, tilesAt, chain, links, stand, MemBy, Mem, Shape}
 use Rattle.sound.specs.Tiles.{tiled-split, end-even, end-append, starts-append, Start, start, starts-once, gap, tiles-split, tiles-join, tiles-cong}
 
 -- two memories that agree at the i-th word of each chunk of l
@@ -150,12 +151,16 @@ tiles-agree w v o (t ∷ ts) a b k =
 pub in-starts : (h : Heap) (x : ℕ) → Shape h → 1 ≤ total x h → 1 ≤ cnt x (Starts h)
 in-starts h x s m = omega (arith, s .own x, starts-all h x)
 
--- ---- a list changes: only links of chunks of L are written, and the other lists have none of them
+-- each chunk of a bin has its skip links
+abbrev pub Skips : Heap → List ℕ → Type 0
+Skips h w = (j : ℕ) → stand (skips j (λ x. sizeOf h x) (bin h j)) w
+
+-- ---- a list changes: only links of chunks of L are written, and the other lists have none of them. The skip links are still to follow
 pub rebin : (h : Heap) (w : List ℕ) (j : ℕ) (l L : List ℕ) (ws : List Write) → Shape h → Mem h w → j < length (h .bins)
     → Sub L (Starts h) → LinkW L ws
     → ((x : ℕ) → 1 ≤ cnt x L → cntAll x (h .stacks) ≡ 0)
     → ((x : ℕ) → 1 ≤ cnt x L → (i : ℕ) → (i ≡ j → ⊥) → cnt x (bin h i) ≡ 0)
-    → links (apply ws w) none64 l none64 → Mem (withBin j l h) (apply ws w)
+    → links (apply ws w) none64 l none64 → MemBy 2 (withBin j l h) (apply ws w)
 rebin h w j l L ws s m hj sub lw ds db own =
     let S : List ℕ = Starts h in
     let v : List ℕ = apply ws w in
@@ -179,14 +184,16 @@ rebin h w j l L ws s m hj sub lw ds db own =
           links-cong w v none64 (bin h i) none64 (ag 2 (bin h i) (omega arith) sb (λ x k. db x k i e))
           (ag 3 (bin h i) (omega arith) sb (λ x k. db x k i e)) (m .blinks i));
       keys = λ z k x p i. ag 3 (stack h k) (omega arith) (λ y n. in-starts h y s (omega (arith, cnt-le-all y (h .stacks) k)))
-          (λ y n. omega (arith, ds y n, cnt-le-all y (h .stacks) k)) x i ∙ m .keys z k x p i;
+          (λ y n. omega (arith, ds y n, cnt-le-all y (h .stacks) k)) x i ∙ m .keys (omega arith) k x p i;
       key64 = m .key64;
+      skipped = λ z. absurd (omega (arith, z));
     }
 
 -- ---- the tiles change: only size words and notes are written
 pub retile : (h : Heap) (w : List ℕ) (ts : List Tile) (ws : List Write) → Mem h w → Shape (withTiles ts h)
-    → HeadW (Starts (withTiles ts h)) ws → tilesAt (apply ws w) 0 (all (withTiles ts h)) → Mem (withTiles ts h) (apply ws w)
-retile h w ts ws m s hw k =
+    → HeadW (Starts (withTiles ts h)) ws → tilesAt (apply ws w) 0 (all (withTiles ts h)) → Skips (withTiles ts h) (apply ws w)
+    → Mem (withTiles ts h) (apply ws w)
+retile h w ts ws m s hw k sk =
     let h′ : Heap = withTiles ts h in
     let S : List ℕ = Starts h′ in
     let v : List ℕ = apply ws w in
@@ -202,6 +209,7 @@ retile h w ts ws m s hw k =
           links-cong w v none64 (bin h i) none64 (ag 2 (bin h i) (omega arith) (omega arith) sb) (ag 3 (bin h i) (omega arith) (omega arith) sb) (m .blinks i);
       keys = λ z k x p i. ag 3 (stack h k) (omega arith) (omega arith) (λ y n. in-starts h′ y s (omega (arith, cnt-le-all y (h .stacks) k))) x i ∙ m .keys z k x p i;
       key64 = m .key64;
+      skipped = λ z. sk;
     }
 
 -- ---- writes in a range of words

@@ -16,8 +16,8 @@ use Rattle.machine.specs.Primitives.{linkIn, unlink}
 use Rattle.sound.specs.Relation.{tiled, Shape, falls, Homes}
 use Rattle.sound.specs.Tiles.{zero-or, tiled-split, starts-append, Start, start, size-mid}
 use Rattle.sound.specs.Frames.{set-cases}
+use Rattle.sound.specs.Apart.{size-at, sizes-mid, sizes-same, tiled-tiles}
 use Rattle.sound.specs.Lists.{cut, cut-cnt, in-range}
-use Rattle.sound.specs.Edits.{size-at, tiled-tiles}
 
 pub falls-cong : (f g : ℕ → ℕ) (l : List ℕ) → ((x : ℕ) → 1 ≤ cnt x l → g x ≡ f x) → falls f l → falls g l
 falls-cong f g [] e k = tt
@@ -51,30 +51,6 @@ homes-tiles h ts e m = record {
   falling = λ j p. falls-cong (λ x. sizeOf h x) (λ x. sizeOf (withTiles ts h) x) (bin h j)
       (λ x i. e x (omega (arith, cnt-le-all x (h .bins) j))) (m .falling j p);
 }
-
--- a middle is put in another's place: chunks of which no start is in it keep their sizes
-pub sizes-at : (h : Heap) (ts a m n z : List Tile) (x : ℕ) → tiled (h .tiles) → tiled n → h .tiles ≡ a ++ (m ++ z) → ts ≡ a ++ (n ++ z)
-    → (endFrom (endFrom 0 a) m ≡ endFrom (endFrom 0 a) n) ⊎ (z ≡ []) → 1 ≤ cnt x (starts h) → cnt x (startsFrom (endFrom 0 a) m) ≡ 0
-    → sizeOf (withTiles ts h) x ≡ sizeOf h x
-sizes-at h ts a m n z x ft fn e e′ q i out =
-    let c : ℕ = endFrom 0 a in
-    let fa : tiled a × tiled (m ++ z) = tiled-split a (m ++ z) (subst tiled e ft) in
-    let fm : tiled m × tiled z = tiled-split m z (fa .1) in
-    let in3 : 1 ≤ cnt x (startsFrom 0 a) + cnt x (startsFrom (endFrom c m) z) =
-    omega (arith, ap (λ (l : List Tile). cnt x (startsFrom 0 l)) e, starts-append 0 a (m ++ z) x, starts-append c m z x) in
-    let low : 1 ≤ cnt x (startsFrom 0 a) → x < c = λ k. let g : Start a 0 x = start a 0 x (fa .0) k in omega (arith, g .high) in
-    let high : cnt x (startsFrom 0 a) ≡ 0 → endFrom c m ≤ x = λ k. let g : Start z (endFrom c m) x =
-    start z (endFrom c m) x (fm .1) (omega arith) in omega (arith, g .low) in
-    let d : (x < c) ⊎ ((endFrom c m ≤ x) × (endFrom c m ≡ endFrom c n)) = ⊎-elim
-    (λ k. ⊎-elim (λ p. inr (high k, p)) (λ p. absurd (omega (arith, ap (λ (l : List Tile). cnt x (startsFrom (endFrom c m) l)) p))) q)
-    (λ k. inl (low k))
-    (zero-or (cnt x (startsFrom 0 a))) in
-    ap (λ (l : List Tile). hdSize (since 0 x l)) e′ ∙ sym (size-mid 0 x a m n z (fm .0) fn d) ∙ ap (λ (l : List Tile). hdSize (since 0 x l)) (sym e)
-
-pub sizes-mid : (h : Heap) (ts a m n z : List Tile) (x : ℕ) → Shape h → tiled (h .tiles) → tiled n → h .tiles ≡ a ++ (m ++ z) → ts ≡ a ++ (n ++ z)
-    → (endFrom (endFrom 0 a) m ≡ endFrom (endFrom 0 a) n) ⊎ (z ≡ []) → 1 ≤ total x h → cnt x (startsFrom (endFrom 0 a) m) ≡ 0
-    → sizeOf (withTiles ts h) x ≡ sizeOf h x
-sizes-mid h ts a m n z x s ft fn e e′ q i out = sizes-at h ts a m n z x ft fn e e′ q (omega (arith, s .own x)) out
 
 -- ---- a chunk leaves a bin; a chunk goes into one
 pub homes-unlink : (h : Heap) (j c : ℕ) → 1 ≤ cnt c (bin h j) → Homes h → Homes (heapOf (unlink j c h))
@@ -119,15 +95,7 @@ homes-link h j c xs ys j1 hj e bc fc m = record {
 -- a tile of the same size in the place of u
 pub homes-same : (h : Heap) (a r : List Tile) (u v : Tile) → h .tiles ≡ a ++ u ∷ r → Shape h → v .size ≡ u .size → v .p ≤ 1 → Homes h
     → Homes (withTiles (a ++ v ∷ r) h)
-homes-same h a r u v e s q p m =
-    let f : tiled a × tiled (u ∷ r) = tiled-split a (u ∷ r) (subst tiled e (tiled-tiles h s)) in
-    homes-tiles h (a ++ v ∷ r)
-    (λ y i. ⊎-elim
-    (λ z. rw z (size-at (withTiles (a ++ v ∷ r) h) a r v refl (f .0) ∙ q ∙ sym (size-at h a r u e (f .0))))
-    (λ z. sizes-mid h (a ++ v ∷ r) a (u ∷ []) (v ∷ []) r y s (tiled-tiles h s) (omega (arith, f .1 .0), omega (arith, f .1 .1), p, tt) e refl
-    (inl (omega arith)) i (omega (arith, ind-other y (endFrom 0 a) z)))
-    (eq? y (endFrom 0 a)))
-    m
+homes-same h a r u v e s q p m = homes-tiles h (a ++ v ∷ r) (λ y i. sizes-same h a r u v y e s q p (omega (arith, s .own y))) m
 
 -- two chunks that no list has become one
 pub homes-whole : (h : Heap) (a r : List Tile) (t u v : Tile) → h .tiles ≡ a ++ t ∷ u ∷ r → Shape h → v .size ≡ t .size + u .size → v .p ≤ 1

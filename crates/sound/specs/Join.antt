@@ -18,10 +18,11 @@ use Rattle.machine.specs.Primitives.{linkIn, putFirst, unlink, swallow, clearP,
 use Rattle.machine.specs.Release.{absorb, joinNext, putDown, join}
 use Rattle.sound.specs.Relation.{tiled, Mem, Shape, Loose, flags, Homes, Good}
 use Rattle.sound.specs.Tiles.{zero-or, tiled-split, end-le, end-append, starts-append, none-out, starts-once, Place, place}
+use Rattle.sound.specs.Apart.{size-at, sizes-mid, tiled-tiles, tiles-at}
 use Rattle.sound.specs.Lists.{cut-cnt, in-range, unlink-shape, unlink-loose, unlink-mem, link-shape, link-mem}
-use Rattle.sound.specs.Edits.{tiles-at, size-at, snoc-end, snoc-tiles, top-mid, all-mid, Kept, tiled-tiles, swallow-is, swallow-kept, clear-is, clear-kept, to-top-is, to-top-kept}
+use Rattle.sound.specs.Edits.{snoc-end, snoc-tiles, top-mid, all-mid, Kept, swallow-is, swallow-kept, clear-is, clear-kept, to-top-is, to-top-kept}
 use Rattle.sound.specs.Flags.{flagsAfter, lastB, lastS, flags-split, flags-join, flags-below, lastB-below, flags-above, after-above, flags-after}
-use Rattle.sound.specs.Homes.{homes-tiles, sizes-mid, homes-unlink, homes-link, homes-whole}
+use Rattle.sound.specs.Homes.{homes-tiles, homes-unlink, homes-link, homes-whole}
 use Rattle.sound.specs.Ends.{Ends, ends-more, ends-then, ends-giving, ends-by}
 
 -- ---- how often the bins have y after a chunk left or came
@@ -68,7 +69,7 @@ unlink-swallow-ends h w a r t u j x e s o k mx tc tn =
     let v : List ℕ = apply ws w in
     let U : Tile = tile (t .size + u .size) 1 0 in
     let s₁ : Shape h₁ = unlink-shape h j x s mx in
-    let K : Kept h₁ (a ++ U ∷ r) v (size c (t .size + u .size) 1 ∷ []) = swallow-kept h₁ v a r t u e s₁ (unlink-mem h w j x s k mx) tn in
+    let K : Kept h₁ (a ++ U ∷ r) v (size c (t .size + u .size) 1 ∷ []) = swallow-kept h₁ v a r t u e s₁ (unlink-mem h w j x s k mx) tc tn in
     ends-more ws (swallow c h₁) (rw (swallow-is h₁ v a r t u e s₁) (record {
       mem = K .mem;
       now = record {
@@ -249,9 +250,9 @@ down-ends h w a n t (u ∷ r) G fr k =
     let lb : lastB d 0 0 a ≡ 0 = lastB-below b d 0 0 0 a (f .0) refl below ∙ G .held in
     ends-by (down-bin c x (t .size) h (does h₁ ws) nt en sz (clear-is h w a₁ r u e₁ s (t .size)))
     (ends-giving (t .size) (more ws (putFirst unsorted c h₁)) (ends-more ws (putFirst unsorted c h₁) (record {
-      mem = link-mem h₁ (apply ws w) 1 c [] (bin h₁ 1) (K .shape) (K .mem) j1 lo refl;
+      mem = link-mem h₁ (apply ws w) 1 c [] (bin h₁ 1) (K .shape) (K .mem) j1 lo refl (λ z. absurd (omega (arith, z)));
       now = record {
-        shape = link-shape h₁ 1 c [] (bin h₁ 1) (K .shape) j1 lo refl;
+        shape = link-shape h₁ 1 c [] (bin h₁ 1) (K .shape) j1 lo refl (λ z. absurd (omega (arith, z)));
         homes = homes-link h₁ 1 c [] (bin h₁ 1) (omega arith) j1 refl (λ z. absurd (omega (arith, z))) (λ z. absurd (omega (arith, z)))
             (homes-tiles h ts
             (λ y i. ⊎-elim

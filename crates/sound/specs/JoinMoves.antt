@@ -14,8 +14,9 @@ use Rattle.machine.specs.Primitives.{putFirst, unlink, swallow}
 use Rattle.machine.specs.Release.{absorb, joinNext, putDown, join}
 use Rattle.sound.specs.Relation.{tiled, Mem, Shape, Loose, Good}
 use Rattle.sound.specs.Tiles.{zero-or, tiled-split, end-le, end-append, starts-append, none-out, starts-once, Place, place}
+use Rattle.sound.specs.Apart.{size-at, tiled-tiles, tiles-at}
 use Rattle.sound.specs.Lists.{unlink-shape}
-use Rattle.sound.specs.Edits.{tiles-at, size-at, snoc-end, snoc-tiles, Kept, tiled-tiles, clear-is, clear-kept}
+use Rattle.sound.specs.Edits.{snoc-end, snoc-tiles, Kept, clear-is, clear-kept}
 use Rattle.sound.specs.Join.{bin-has, Joining, next-no, next-yes, next-ends, down-top, down-bin, Before, before-of, lst-starts, open-flags, gap-here, prev-ends, join-here, join-prev}
 use Rattle.sound.specs.Moves.{nil, one, any, Moved, listed-not, moved-then, moved-giving, moved-by, unlink-moved, link-moved, swallow-moved, clear-moved, to-top-moved}
 
@@ -85,7 +86,7 @@ down-moved h w a n t (u ∷ r) G k =
     (moved-giving (t .size) (λ y. refl)
     (moved-then (λ g. putFirst unsorted c g)
     (moved-by (sym ci) (clear-moved h a₁ r u e₁ s c (t .size) mc en))
-    (link-moved h₁ 1 c [] (bin h₁ 1) (K .shape) (omega (arith, s .binned127)) lo refl)
+    (link-moved h₁ 1 c [] (bin h₁ 1) (K .shape) (omega (arith, s .binned127)) lo refl (λ z. absurd (omega (arith, z))))
     (λ b y. refl) (λ y l z. (z, z))))
 
 -- joined with the chunk after it and put down

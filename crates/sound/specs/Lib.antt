@@ -1,6 +1,8 @@
 pub mod Relation
 pub mod Tiles
 pub mod Frames
+pub mod Apart
+pub mod Rings
 pub mod Lists
 pub mod Edits
 pub mod Flags

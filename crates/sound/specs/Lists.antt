@@ -10,14 +10,18 @@ use native.Mathlib.Omega.{arith}
 use lib.Dec.{eqb}
 use lib.ListN.{length, getD, length-set}
 use borrow.Author.Tests.{eqb-true}
-use Rattle.sizes.specs.Limits.{none64}
+use Rattle.sizes.specs.Limits.{none64, large, firstLarge}
 use Rattle.machine.specs.Lists.{hd, lst, pre, post, ind, cnt, cntAll}
 use Rattle.machine.specs.Count.{eq?, ind-same, ind-other, cnt-append, cnt-here, cntAll-set, cnt-le-all, cnt-two}
-use Rattle.machine.specs.Heap.{Heap, bin, starts}
+use Rattle.machine.specs.Heap.{Heap, bin, withBin, starts, sizeOf}
 use Rattle.machine.specs.Writes.{Write, who, put, apply, heapOf, writes, fwd, back}
-use Rattle.machine.specs.Primitives.{fwdTo, backTo, linkIn, unlink}
-use Rattle.sound.specs.Relation.{chain, links, Mem, Shape, Loose}
-use Rattle.sound.specs.Frames.{Agree, links-cong, Starts, starts-all, Grid, grid, Sub, put-length, apply-length, apply-append, put-other, put-same, agree, LinkW, link-append, link-out, rebin}
+use Rattle.machine.specs.Primitives.{fwdTo, backTo, linksIn, linkIn, linksOut, unlink}
+use Rattle.machine.specs.Skips.{skipsIn, skipsOut}
+use Rattle.sound.specs.Relation.{chain, links, MemBy, Mem, Shape, Loose}
+use Rattle.sound.specs.Tiles.{starts-once}
+use Rattle.sound.specs.Frames.{Agree, links-cong, set-cases, Starts, starts-all, Grid, grid, Sub, put-length, apply-length, apply-append, put-other, put-same, agree, LinkW, link-append, link-out, Skips, rebin}
+use Rattle.sound.specs.Apart.{tiled-tiles}
+use Rattle.sound.specs.Rings.{SkipW, skipsIn-w, skipsOut-w, link-low-w, skips-bin, left-stands, come-stands, skip-mem}
 
 -- ---- the list alone
 pub cut : (c : ℕ) (l : List ℕ) → 1 ≤ cnt c l → l ≡ pre c l ++ c ∷ post c l
@@ -75,6 +79,25 @@ back-w (y ∷ ys) q = (omega arith, cnt-here y ys, tt)
 pub link-more : (L M : List ℕ) (ws : List Write) → Sub L M → LinkW L ws → LinkW M ws
 link-more L M [] s k = tt
 link-more L M (e ∷ ws) s k = (k .0, s (who e) (k .1), link-more L M ws s (k .2))
+
+pub out-w : (xs ys : List ℕ) → LinkW (xs ++ ys) (linksOut xs ys)
+out-w xs ys = link-append (xs ++ ys) (fwdTo xs (hd none64 ys)) (backTo ys (lst none64 xs))
+    (link-more xs (xs ++ ys) (fwdTo xs (hd none64 ys)) (λ x i. omega (arith, cnt-append x xs ys)) (fwd-w xs (hd none64 ys)))
+    (link-more ys (xs ++ ys) (backTo ys (lst none64 xs)) (λ x i. omega (arith, cnt-append x xs ys)) (back-w ys (lst none64 xs)))
+
+pub in-w : (c : ℕ) (xs ys : List ℕ) → LinkW (c ∷ (xs ++ ys)) (linksIn c xs ys)
+in-w c xs ys =
+    let L : List ℕ = c ∷ (xs ++ ys) in (
+      omega arith,
+      cnt-here c (xs ++ ys),
+      (
+        omega arith,
+        cnt-here c (xs ++ ys),
+        link-append L (fwdTo xs c) (backTo ys c)
+            (link-more xs L (fwdTo xs c) (λ x i. omega (arith, cnt-append x xs ys)) (fwd-w xs c))
+            (link-more ys L (backTo ys c) (λ x i. omega (arith, cnt-append x xs ys)) (back-w ys c)),
+      ),
+    )
 
 module _ (S : List ℕ) (n : ℕ) (g : Grid S n) where
   -- a list of chunks, each at most once
@@ -194,6 +217,8 @@ unlink-shape h j c s mc =
         cntAll-set x (h .bins) j l
             (in-range c (h .bins) j mc),
       );
+      roomy = λ i x z. set-cases (λ q. 1 ≤ cnt x q → large ≤ sizeOf h x) (h .bins) j l i (in-range c (h .bins) j mc)
+          (λ e m. s .roomy j x (omega (arith, e)) (omega (arith, cut-cnt c (bin h j) mc x, cnt-append x (pre c (bin h j)) (post c (bin h j))))) (λ e. s .roomy i x z);
     }
 
 -- c is in no list then
@@ -210,28 +235,46 @@ unlink-loose h j c s mc =
           (in-range c (h .bins) j mc),
     )
 
-pub unlink-mem : (h : Heap) (w : List ℕ) (j c : ℕ) → Shape h → Mem h w → 1 ≤ cnt c (bin h j) → Mem (heapOf (unlink j c h)) (apply (writes (unlink j c h)) w)
-unlink-mem h w j c s m mc =
+-- the links, before the skip links follow
+pub unlinked-mem : (h : Heap) (w : List ℕ) (j c : ℕ) → Shape h → Mem h w → 1 ≤ cnt c (bin h j)
+    → MemBy 2 (heapOf (unlink j c h)) (apply (linksOut (pre c (bin h j)) (post c (bin h j))) w)
+unlinked-mem h w j c s m mc =
     let xs : List ℕ = pre c (bin h j) in
     let ys : List ℕ = post c (bin h j) in
     let S : List ℕ = Starts h in
     let g : Grid S (length w) = grid h (length w) (s .sizes) (m .long) in
-    let e = cut c (bin h j) mc in
     let cc : (x : ℕ) → cnt x (bin h j) ≡ cnt x xs + (ind (eqb x c) + cnt x ys) = cut-cnt c (bin h j) mc in
     let up : (x : ℕ) → cnt x (xs ++ ys) ≡ cnt x xs + cnt x ys = λ x. cnt-append x xs ys in
     let pt : (x : ℕ) → cnt x (bin h j) ≤ cnt x S = λ x. omega (arith, s .own x, starts-all h x, cnt-le-all x (h .bins) j) in
-    rebin h w j (xs ++ ys) (xs ++ ys) (fwdTo xs (hd none64 ys) ++ backTo ys (lst none64 xs)) s m (in-range c (h .bins) j mc)
-    (λ x i. omega (arith, pt x, cc x, up x))
-    (link-append (xs ++ ys) (fwdTo xs (hd none64 ys)) (backTo ys (lst none64 xs))
-    (link-more xs (xs ++ ys) (fwdTo xs (hd none64 ys)) (λ x i. omega (arith, up x)) (fwd-w xs (hd none64 ys)))
-    (link-more ys (xs ++ ys) (backTo ys (lst none64 xs)) (λ x i. omega (arith, up x)) (back-w ys (lst none64 xs))))
+    rebin h w j (xs ++ ys) (xs ++ ys) (linksOut xs ys) s m (in-range c (h .bins) j mc) (λ x i. omega (arith, pt x, cc x, up x)) (out-w xs ys)
     (λ x i. omega (arith, s .own x, starts-all h x, g .once x, cc x, up x, cnt-le-all x (h .bins) j))
     (λ x i k ne. omega (arith, s .own x, starts-all h x, g .once x, cc x, up x, cnt-two x (h .bins) k j ne))
-    (unlink-links S (length w) g w refl xs ys c (λ x. omega (arith, pt x, ap (cnt x) e))
-    (subst (λ (l : List ℕ). links w none64 l none64) e (m .blinks j)))
+    (unlink-links S (length w) g w refl xs ys c (λ x. omega (arith, pt x, ap (cnt x) (cut c (bin h j) mc)))
+    (subst (λ (l : List ℕ). links w none64 l none64) (cut c (bin h j) mc) (m .blinks j)))
 
-pub link-shape : (h : Heap) (j c : ℕ) (xs ys : List ℕ) → Shape h → j < length (h .bins) → Loose h c → bin h j ≡ xs ++ ys → Shape (heapOf (linkIn j c xs ys h))
-link-shape h j c xs ys s hj lo e =
+pub unlink-mem : (h : Heap) (w : List ℕ) (j c : ℕ) → Shape h → Mem h w → 1 ≤ cnt c (bin h j) → Mem (heapOf (unlink j c h)) (apply (writes (unlink j c h)) w)
+unlink-mem h w j c s m mc =
+    let xs : List ℕ = pre c (bin h j) in
+    let ys : List ℕ = post c (bin h j) in
+    let ls : List ℕ = xs ++ ys in
+    let ws : List Write = linksOut xs ys in
+    let hj = in-range c (h .bins) j mc in
+    let K : Skips h w = m .skipped (omega arith) in
+    let few : (x : ℕ) → cnt x ls ≤ cnt x (bin h j) = λ x. omega (arith, cut-cnt c (bin h j) mc x, cnt-append x xs ys) in
+    let has : Sub ls (starts h) = λ x i. omega (arith, few x, s .own x, cnt-le-all x (h .bins) j) in
+    let low = link-low-w h s ls ws (λ x i. omega (arith, has x i, starts-all h x)) (out-w xs ys) in
+    let wide : firstLarge ≤ j → (x : ℕ) → 1 ≤ cnt x ls → large ≤ sizeOf h x = λ z x i. s .roomy j x z (omega (arith, few x)) in
+    let vs : List Write = skipsOut j (λ x. sizeOf h x) ls in
+    let kw : SkipW (λ x. sizeOf h x) ls vs = skipsOut-w j (λ x. sizeOf h x) ls wide in
+    let once : (x : ℕ) → cnt x (starts h) ≤ 1 = λ x. starts-once (h .tiles) 0 x (tiled-tiles h s) in
+    rw (apply-append ws vs w) (skip-mem (withBin j ls h) (unlink-shape h j c s mc) (apply ws w) ls vs (unlinked-mem h w j c s m mc) kw has
+    (skips-bin h s w j ls ws vs K hj low kw has
+    (λ x i k ne. omega (arith, s .own x, few x, cnt-two x (h .bins) k j ne, once x))
+    (left-stands h s j c xs ys ws w (m .long) K low (cut c (bin h j) mc) has (λ x. omega (arith, few x, s .own x, cnt-le-all x (h .bins) j, once x)) wide)))
+
+pub link-shape : (h : Heap) (j c : ℕ) (xs ys : List ℕ) → Shape h → j < length (h .bins) → Loose h c → bin h j ≡ xs ++ ys → (firstLarge ≤ j → large ≤ sizeOf h c)
+    → Shape (heapOf (linkIn j c xs ys h))
+link-shape h j c xs ys s hj lo e lc =
     record {
       small = s .small;
       sizes = s .sizes;
@@ -241,33 +284,47 @@ link-shape h j c xs ys s hj lo e =
           (λ q. rw q (omega (arith, ind-same c, ap (cnt c) e, cnt-append c xs (c ∷ ys), cnt-append c xs ys, cntAll-set c (h .bins) j (xs ++ c ∷ ys) hj)))
           (λ q. omega (arith, s .own x, ind-other x c q, ap (cnt x) e, cnt-append x xs (c ∷ ys), cnt-append x xs ys, cntAll-set x (h .bins) j (xs ++ c ∷ ys) hj))
           (eq? x c);
+      roomy = λ i x z. set-cases (λ q. 1 ≤ cnt x q → large ≤ sizeOf h x) (h .bins) j (xs ++ c ∷ ys) i hj
+          (λ q m. ⊎-elim (λ y. rw y (lc (omega (arith, q))))
+          (λ y. s .roomy j x (omega (arith, q)) (omega (arith, ind-other x c y, ap (cnt x) e, cnt-append x xs (c ∷ ys), cnt-append x xs ys))) (eq? x c)) (λ q. s .roomy i x z);
     }
 
-pub link-mem : (h : Heap) (w : List ℕ) (j c : ℕ) (xs ys : List ℕ) → Shape h → Mem h w → j < length (h .bins) → Loose h c → bin h j ≡ xs ++ ys
-    → Mem (heapOf (linkIn j c xs ys h)) (apply (writes (linkIn j c xs ys h)) w)
-link-mem h w j c xs ys s m hj lo e =
+-- c, which no list has, comes to them
+come-own : (h : Heap) (c : ℕ) → Shape h → Loose h c → (x : ℕ) → cntAll x (h .stacks) + cntAll x (h .bins) + ind (eqb x c) ≤ cnt x (starts h)
+come-own h c s lo x = ⊎-elim (λ q. rw q (omega (arith, ind-same c))) (λ q. omega (arith, s .own x, ind-other x c q)) (eq? x c)
+
+pub linked-mem : (h : Heap) (w : List ℕ) (j c : ℕ) (xs ys : List ℕ) → Shape h → Mem h w → j < length (h .bins) → Loose h c → bin h j ≡ xs ++ ys
+    → MemBy 2 (heapOf (linkIn j c xs ys h)) (apply (linksIn c xs ys) w)
+linked-mem h w j c xs ys s m hj lo e =
     let S : List ℕ = Starts h in
     let g : Grid S (length w) = grid h (length w) (s .sizes) (m .long) in
     let L : List ℕ = c ∷ (xs ++ ys) in
     let up : (x : ℕ) → cnt x (bin h j) ≡ cnt x xs + cnt x ys = λ x. ap (cnt x) e ∙ cnt-append x xs ys in
     let up′ : (x : ℕ) → cnt x (xs ++ ys) ≡ cnt x xs + cnt x ys = λ x. cnt-append x xs ys in
-    let own′ : (x : ℕ) → cntAll x (h .stacks) + cntAll x (h .bins) + ind (eqb x c) ≤ cnt x (starts h) = λ x. ⊎-elim
-    (λ q. rw q (omega (arith, ind-same c)))
-    (λ q. omega (arith, s .own x, ind-other x c q))
-    (eq? x c) in
-    rebin h w j (xs ++ c ∷ ys) L (fwd c (hd none64 ys) ∷ back c (lst none64 xs) ∷ fwdTo xs c ++ backTo ys c) s m hj
-    (λ x i. omega (arith, own′ x, starts-all h x, up x, up′ x, cnt-le-all x (h .bins) j)) (
-      omega arith,
-      cnt-here c (xs ++ ys),
-      (
-        omega arith,
-        cnt-here c (xs ++ ys),
-        link-append L (fwdTo xs c) (backTo ys c)
-            (link-more xs L (fwdTo xs c) (λ x i. omega (arith, up′ x)) (fwd-w xs c))
-            (link-more ys L (backTo ys c) (λ x i. omega (arith, up′ x)) (back-w ys c)),
-      ),
-    )
+    let own′ = come-own h c s lo in
+    rebin h w j (xs ++ c ∷ ys) L (linksIn c xs ys) s m hj
+    (λ x i. omega (arith, own′ x, starts-all h x, up x, up′ x, cnt-le-all x (h .bins) j)) (in-w c xs ys)
     (λ x i. omega (arith, own′ x, starts-all h x, g .once x, up x, up′ x, cnt-le-all x (h .bins) j))
     (λ x i k ne. omega (arith, own′ x, starts-all h x, g .once x, up x, up′ x, cnt-two x (h .bins) k j ne))
     (link-links S (length w) g w refl xs ys c (λ x. omega (arith, own′ x, starts-all h x, up x, cnt-append x xs (c ∷ ys), cnt-le-all x (h .bins) j))
     (subst (λ (l : List ℕ). links w none64 l none64) e (m .blinks j)))
+
+pub link-mem : (h : Heap) (w : List ℕ) (j c : ℕ) (xs ys : List ℕ) → Shape h → Mem h w → j < length (h .bins) → Loose h c → bin h j ≡ xs ++ ys
+    → (firstLarge ≤ j → large ≤ sizeOf h c) → Mem (heapOf (linkIn j c xs ys h)) (apply (writes (linkIn j c xs ys h)) w)
+link-mem h w j c xs ys s m hj lo e lc =
+    let ls : List ℕ = xs ++ c ∷ ys in
+    let ws : List Write = linksIn c xs ys in
+    let own′ = come-own h c s lo in
+    let K : Skips h w = m .skipped (omega arith) in
+    let all′ : (x : ℕ) → cnt x ls ≡ cnt x (bin h j) + ind (eqb x c) = λ x. omega (arith, cnt-append x xs (c ∷ ys), ap (cnt x) e, cnt-append x xs ys) in
+    let has : Sub ls (starts h) = λ x i. omega (arith, all′ x, own′ x, cnt-le-all x (h .bins) j) in
+    let low = link-low-w h s (c ∷ (xs ++ ys)) ws
+    (λ x i. omega (arith, has x (omega (arith, cnt-append x xs (c ∷ ys), cnt-append x xs ys)), starts-all h x)) (in-w c xs ys) in
+    let wide : firstLarge ≤ j → (x : ℕ) → 1 ≤ cnt x ls → large ≤ sizeOf h x = λ z x i. ⊎-elim (λ q. rw q (lc z)) (λ q. s .roomy j x z (omega (arith, all′ x, ind-other x c q))) (eq? x c) in
+    let vs : List Write = skipsIn j (λ x. sizeOf h x) c ls in
+    let kw : SkipW (λ x. sizeOf h x) ls vs = skipsIn-w j (λ x. sizeOf h x) c ls (omega (arith, all′ c, ind-same c)) wide in
+    let once : (x : ℕ) → cnt x (starts h) ≤ 1 = λ x. starts-once (h .tiles) 0 x (tiled-tiles h s) in
+    rw (apply-append ws vs w) (skip-mem (withBin j ls h) (link-shape h j c xs ys s hj lo e lc) (apply ws w) ls vs (linked-mem h w j c xs ys s m hj lo e) kw has
+    (skips-bin h s w j ls ws vs K hj low kw has
+    (λ x i k ne. omega (arith, own′ x, all′ x, cnt-two x (h .bins) k j ne, once x))
+    (come-stands h s j c xs ys ws w (m .long) K low e has (λ x. omega (arith, all′ x, own′ x, cnt-le-all x (h .bins) j, once x)) wide)))

@@ -19,7 +19,7 @@ use Rattle.machine.specs.Grant.{grant}
 use Rattle.machine.specs.Resize.{resize}
 use Rattle.sound.specs.Relation.{Mem, Shape, Loose, Good}
 use Rattle.sound.specs.Tiles.{starts-once}
-use Rattle.sound.specs.Edits.{tiled-tiles}
+use Rattle.sound.specs.Apart.{tiled-tiles}
 use Rattle.sound.specs.Spares.{Spares, spared}
 use Rattle.sound.specs.Moves.{answerOf, nil, one, any, Moved, moved-keeps}
 use Rattle.sound.specs.Leaves.{Leaves, gave, Still, Cached, Found}

@@ -7,19 +7,22 @@ use Prim.Native.Nat.{ℕ, _+_, _-_, _%_, _≤_, _<_}
 use native.Mathlib.Omega.{arith}
 use lib.Dec.{eqb}
 use lib.ListN.{length}
-use Rattle.sizes.specs.Limits.{none64}
+use Rattle.sizes.specs.Limits.{none64, large, firstLarge}
 use Rattle.machine.specs.Lists.{hd, lst, tl, pre, post, ind, cnt}
-use Rattle.machine.specs.Count.{eq?, ind-same, ind-other, cnt-here, cntAll-set, cnt-le-all}
+use Rattle.machine.specs.Count.{eq?, ind-same, ind-other, cnt-append, cnt-here, cntAll-set, cnt-le-all}
 use Rattle.machine.specs.Heap.{Tile, tile, Heap, stack, bin, withTiles, endFrom, startsFrom, topOf, starts, sizeOf, next, total}
 use Rattle.machine.specs.Writes.{Write, Ran, heapOf, writes, does, giving, more, _>>=_, size, note, link, key, ran}
-use Rattle.machine.specs.Primitives.{push, pop, pushCache, takeCache, linkIn, unlink, swallow, clearP, setP, setNote, cutAt, toTop, cutTop, setRemainder, widen, trimAt, growTop}
+use Rattle.machine.specs.Primitives.{push, pop, pushCache, takeCache, linksIn, linkIn, linksOut, unlink, swallow, clearP, setP, setNote, cutAt, toTop, cutTop, setRemainder, widen, trimAt, growTop}
+use Rattle.machine.specs.Skips.{skipsIn, skipsOut}
 use Rattle.sound.specs.Relation.{tiled, Shape, Loose}
 use Rattle.sound.specs.Tiles.{tiled-split, starts-append, starts-once}
 use Rattle.sound.specs.Frames.{starts-all}
-use Rattle.sound.specs.Edits.{size-at, size-32, snoc-end, same-starts, tiled-tiles, swallow-is, clear-is, set-is, note-is, cut-is, to-top-is, widen-is, trim-is, grow-is}
-use Rattle.sound.specs.Homes.{sizes-at}
+use Rattle.sound.specs.Apart.{sizes-at, sizes-same, tiled-tiles}
+use Rattle.sound.specs.Edits.{size-32, snoc-end, same-starts, swallow-is, clear-is, set-is, note-is, cut-is, to-top-is, widen-is, trim-is, grow-is}
+use Rattle.sound.specs.Lists.{cut-cnt}
+use Rattle.sound.specs.Rings.{skipsIn-w, skipsOut-w}
 use Rattle.sound.specs.Join.{binned-unlink, binned-link}
-use Rattle.sound.specs.Spares.{Spares, Past, past-append, past-ends, spares-append, spare-links, unlink-spares, link-spares, spare-size, spare-note}
+use Rattle.sound.specs.Spares.{Spares, Past, past-append, past-ends, past-skips, spares-append, spare-links, unlink-spares, link-spares, spare-size, spare-note}
 
 abbrev pub answerOf : {A : Type 0} → Ran A → A
 answerOf (ran h ws a) = a
@@ -94,16 +97,21 @@ unlink-moved h j q s m = record {
   count = λ x. omega (arith, binned-unlink h j q x m);
   same = λ x lo z. refl;
   spare = λ x lo z. unlink-spares h j q x s lo m;
-  past = past-ends (pre q (bin h j)) (post q (bin h j)) (hd none64 (post q (bin h j))) (lst none64 (pre q (bin h j)));
+  past = past-append (linksOut (pre q (bin h j)) (post q (bin h j))) (skipsOut j (λ x. sizeOf h x) (pre q (bin h j) ++ post q (bin h j)))
+      (past-ends (pre q (bin h j)) (post q (bin h j)) (hd none64 (post q (bin h j))) (lst none64 (pre q (bin h j))))
+      (past-skips (λ x. sizeOf h x) (pre q (bin h j) ++ post q (bin h j)) (skipsOut j (λ x. sizeOf h x) (pre q (bin h j) ++ post q (bin h j))) (skipsOut-w j (λ x. sizeOf h x) (pre q (bin h j) ++ post q (bin h j))
+      (λ z x i. s .roomy j x z (omega (arith, cut-cnt q (bin h j) m x, cnt-append x (pre q (bin h j)) (post q (bin h j)))))));
 }
 
 pub link-moved : (h : Heap) (j c : ℕ) (xs ys : List ℕ) → Shape h → j < length (h .bins) → Loose h c → bin h j ≡ xs ++ ys
-    → Moved h (linkIn j c xs ys h) (any nil) (one c)
-link-moved h j c xs ys s hj lc e = record {
+    → (firstLarge ≤ j → large ≤ sizeOf h c) → Moved h (linkIn j c xs ys h) (any nil) (one c)
+link-moved h j c xs ys s hj lc e lw = record {
   count = λ x. omega (arith, binned-link h j c x xs ys hj e);
   same = λ x lo z. refl;
-  spare = λ x lo z. link-spares h j c x xs ys s lo lc (one-not c x z) e;
-  past = (omega arith, (omega arith, past-ends xs ys c c));
+  spare = λ x lo z. link-spares h j c x xs ys s lo lc (one-not c x z) e lw;
+  past = past-append (linksIn c xs ys) (skipsIn j (λ x. sizeOf h x) c (xs ++ c ∷ ys)) (omega arith, (omega arith, past-ends xs ys c c))
+      (past-skips (λ x. sizeOf h x) (xs ++ c ∷ ys) (skipsIn j (λ x. sizeOf h x) c (xs ++ c ∷ ys)) (skipsIn-w j (λ x. sizeOf h x) c (xs ++ c ∷ ys) (omega (arith, cnt-append c xs (c ∷ ys), ind-same c))
+      (λ z x i. ⊎-elim (λ q. rw q (lw z)) (λ q. s .roomy j x z (omega (arith, cnt-append x xs (c ∷ ys), ap (cnt x) e, cnt-append x xs ys, ind-other x c q))) (eq? x c))));
 }
 
 pub push-moved : (h : Heap) (k c : ℕ) → Shape h → k < 74 → Loose h c → Moved h (push k c h) (any nil) (one c)
@@ -192,15 +200,6 @@ module _ (h : Heap) (a z : List Tile) (u : Tile) (e : h .tiles ≡ a ++ u ∷ z)
   here : 1 ≤ cnt (endFrom 0 a) (starts h)
   here = omega (arith, ap (λ (l : List Tile). cnt (endFrom 0 a) (startsFrom 0 l)) e, starts-append 0 a (u ∷ z) (endFrom 0 a), ind-same (endFrom 0 a))
 
-  same-size : (v : Tile) → v .size ≡ u .size → v .p ≤ 1 → (x : ℕ) → 1 ≤ cnt x (starts h) → sizeOf (withTiles (a ++ v ∷ z) h) x ≡ sizeOf h x
-  same-size v q p x m =
-      let f = fu in
-      ⊎-elim
-      (λ y. rw y (size-at (withTiles (a ++ v ∷ z) h) a z v refl (f .0) ∙ q ∙ sym (size-at h a z u e (f .0))))
-      (λ y. sizes-at h (a ++ v ∷ z) a (u ∷ []) (v ∷ []) z x (tiled-tiles h s) (omega (arith, f .1 .0), omega (arith, f .1 .1), p, tt) e refl
-      (inl (omega arith)) m (omega (arith, ind-other x (endFrom 0 a) y)))
-      (eq? x (endFrom 0 a))
-
   pub set-moved : Moved h (setP (endFrom 0 a) h) (any nil) nil
   set-moved =
       let c : ℕ = endFrom 0 a in
@@ -208,7 +207,7 @@ module _ (h : Heap) (a z : List Tile) (u : Tile) (e : h .tiles ≡ a ++ u ∷ z)
       let i = here in
       moved-by (set-is h [] a z u e s) (record {
         count = λ x. omega (arith, same-starts h a z u U e refl x);
-        same = λ x lo y. same-size U refl (omega arith) x (omega arith);
+        same = λ x lo y. sizes-same h a z u U x e s refl (omega arith) (omega arith);
         spare = λ x lo y. spare-size h x c (u .size) 1 s lo (omega (arith, starts-all h c));
         past = (omega arith, tt);
       })
@@ -221,7 +220,7 @@ module _ (h : Heap) (a z : List Tile) (u : Tile) (e : h .tiles ≡ a ++ u ∷ z)
       let i = here in
       moved-by (note-is h [] a z u e s m) (record {
         count = λ x. omega (arith, same-starts h a z u U e refl x);
-        same = λ x lo y. same-size U refl (fu .1 .2) x (omega arith);
+        same = λ x lo y. sizes-same h a z u U x e s refl (fu .1 .2) (omega arith);
         spare = λ x lo y. subst (λ (o : ℕ). Spares x (sizeOf h x) (note o m ∷ [])) nd
             (spare-note h x d m s lo (one-not d x y) md (rw nd (omega (arith, starts-all h c))));
         past = (omega (arith, nd, size-32 h d s md), tt);
@@ -234,7 +233,7 @@ module _ (h : Heap) (a z : List Tile) (u : Tile) (e : h .tiles ≡ a ++ u ∷ z)
       let i = here in
       moved-by (clear-is h [] a z u e s m) (record {
         count = λ x. omega (arith, same-starts h a z u U e refl x);
-        same = λ x lo y. same-size U refl (omega arith) x (omega arith);
+        same = λ x lo y. sizes-same h a z u U x e s refl (omega arith) (omega arith);
         spare = λ x lo y. (
           spare-size h x c (u .size) 0 s lo (omega (arith, starts-all h c)) .0,
           subst (λ (o : ℕ). Spares x (sizeOf h x) (note o m ∷ [])) nd (spare-note h x d m s lo (one-not d x y) md (rw nd (omega (arith, starts-all h c)))),

@@ -12,7 +12,9 @@ use Rattle.sizes.specs.Layout.{keyWord}
 use Rattle.machine.specs.Lists.{cnt, cntAll}
 use Rattle.machine.specs.Heap.{sizeOf, opened}
 use Rattle.machine.specs.Writes.{apply, size}
-use Rattle.sound.specs.Relation.{chain, links, Mem, falls, stackSize, Good}
+use Rattle.sound.specs.Relation.{chain, links, Mem, falls, stackSize, Good, stand}
+use Rattle.sound.specs.Rings.{kind-case}
+use Rattle.machine.specs.Skips.{skips}
 
 getD-none : (n k : ℕ) → getD {A = List ℕ} (replicate n []) k [] ≡ []
 getD-none zero k = refl
@@ -36,6 +38,7 @@ opened-good n q e l m = record {
     binned127 = refl;
     own =
         λ x. omega (arith, cntAll-none 74 x, cntAll-none 127 x);
+    roomy = λ j x p. of-none 127 j (λ l. 1 ≤ cnt x l → 1024 ≤ sizeOf (opened n q) x) (λ i. absurd (not-suc-le-zero i));
   };
   homes = record {
     stacked = λ k x. of-none 74 k (λ l. 1 ≤ cnt x l → sizeOf (opened n q) x ≡ stackSize k) (λ i. absurd (not-suc-le-zero i));
@@ -56,6 +59,8 @@ opened-mem n q w b e m l = record {
   blinks = λ j. of-none 127 j (λ l. links (set w 1 (n + 1)) none64 l none64) tt;
   keys = λ z k x p. of-none 74 k (λ l. 1 ≤ cnt x l → getD (set w 1 (n + 1)) (keyWord x) 0 ≡ q) (λ i. absurd (not-suc-le-zero i));
   key64 = b;
+  skipped = λ z j. of-none 127 j (λ l. stand (skips j (λ x. sizeOf (opened n q) x) l) (set w 1 (n + 1)))
+      (kind-case (λ ws. stand ws (set w 1 (n + 1))) j [] [] (λ z. tt) (λ z. tt) tt);
 }
   where
     first : getD (set w 1 (n + 1)) 1 0 ≡ n - 0 + 1

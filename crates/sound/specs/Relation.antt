@@ -3,14 +3,16 @@
 use mathlib.Core.Path.{_≡_}
 use mathlib.Core.List.{List, [], _∷_, _++_}
 use mathlib.Core.Bool.{true, false}
-use Prim.Native.Nat.{ℕ, _+_, _-_, _*_, _%_, _≤_, _<_, _^_}
+use Prim.Native.Nat.{ℕ, _+_, _-_, _*_, _/_, _%_, _≤_, _<_, _^_}
 use lib.Dec.{ltb}
 use lib.ListN.{length, getD}
-use Rattle.sizes.specs.Limits.{none64, newest, mostArena, leastChunk, cacheLists, cacheRoom, mostFast}
+use Rattle.sizes.specs.Limits.{none64, newest, mostArena, leastChunk, cacheLists, cacheRoom, mostFast, large, firstLarge}
 use Rattle.sizes.specs.Sizes.{binOf}
 use Rattle.sizes.specs.Layout.{prevWord, sizeWord, fwdWord, backWord, keyWord}
 use Rattle.machine.specs.Lists.{hd, cnt}
 use Rattle.machine.specs.Heap.{Tile, tile, Heap, stack, bin, binned, starts, topSize, sizeOf, total, recordOf}
+use Rattle.machine.specs.Writes.{Write, who, field, value}
+use Rattle.machine.specs.Skips.{skips}
 
 -- ---- tiles, the top as the last of them, P set
 abbrev pub all : Heap → List Tile
@@ -35,7 +37,12 @@ abbrev pub links : List ℕ → ℕ → List ℕ → ℕ → Type 0
 links w p [] n = Unit {0}
 links w p (x ∷ l) n = (getD w (fwdWord x) 0 ≡ hd n l) × (getD w (backWord x) 0 ≡ p) × links w x l n
 
--- by the rules of version v: since version 2 each cached chunk has the key
+-- the words are as writes would leave them
+abbrev pub stand : List Write → List ℕ → Type 0
+stand [] w = Unit {0}
+stand (e ∷ es) w = (getD w (who e / 8 + field e) 0 ≡ value e w) × stand es w
+
+-- by the rules of version v: since version 2 each cached chunk has the key, since version 3 the bins have skip links
 pub record MemBy (v : ℕ) (h : Heap) (w : List ℕ) : Type 0 where
   pub long : 8 * length w ≡ h .len
   pub words : tilesAt w 0 (all h)
@@ -43,17 +50,19 @@ pub record MemBy (v : ℕ) (h : Heap) (w : List ℕ) : Type 0 where
   pub blinks : (j : ℕ) → links w none64 (bin h j) none64
   pub keys : 2 ≤ v → (k x : ℕ) → k < cacheLists → 1 ≤ cnt x (stack h k) → getD w (keyWord x) 0 ≡ h .key
   pub key64 : h .key < 2 ^ 64
+  pub skipped : 3 ≤ v → (j : ℕ) → stand (skips j (λ x. sizeOf h x) (bin h j)) w
 
 abbrev pub Mem : Heap → List ℕ → Type 0
 Mem h w = MemBy newest h w
 
--- ---- after every primitive: the tiles fill the arena, each listed chunk is a chunk but the top, and in one list once
+-- ---- after every primitive: the tiles fill the arena, each listed chunk is a chunk but the top, and in one list once; one of a bin from 64 on is large
 pub record Shape (h : Heap) : Type 0 where
   pub small : h .len ≤ mostArena
   pub sizes : tiled (all h)
   pub stacked74 : length (h .stacks) ≡ 74
   pub binned127 : length (h .bins) ≡ 127
   pub own : (x : ℕ) → total x h ≤ cnt x (starts h)
+  pub roomy : (j x : ℕ) → firstLarge ≤ j → 1 ≤ cnt x (bin h j) → large ≤ sizeOf h x
 
 -- c is a chunk but the top that no list has: a live block, or one between two lists
 abbrev pub Loose : Heap → ℕ → Type 0

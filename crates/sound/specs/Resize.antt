@@ -20,7 +20,7 @@ use Rattle.machine.specs.declared.{Got.Got, Got.the-variants.At, Got.the-varian
 use Rattle.sound.specs.Relation.{Mem, Loose, Good}
 use Rattle.sound.specs.Tiles.{starts-once}
 use Rattle.sound.specs.Frames.{apply-append}
-use Rattle.sound.specs.Edits.{tiled-tiles}
+use Rattle.sound.specs.Apart.{tiled-tiles}
 use Rattle.sound.specs.Spares.{spared}
 use Rattle.sound.specs.Moves.{answerOf, nil, one, any, Moved, moved-keeps}
 use Rattle.sound.specs.Leaves.{Leaves, leaves-giving, leaves-next, leaves-size, gave, Found}

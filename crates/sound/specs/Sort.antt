@@ -12,7 +12,7 @@ use lib.ListN.{length}
 use borrow.Author.Tests.{eqb-true, lt-ltb, le-ltb, ltb-true, ltb-false}
 use Rattle.sizes.specs.Limits.{large, unsorted}
 use Rattle.sizes.specs.Sizes.{binOf}
-use Rattle.sizes.specs.BinLaws.{binOf-small, binOf-bounds}
+use Rattle.sizes.specs.BinLaws.{binOf-small, binOf-bounds, binOf-wide}
 use Rattle.machine.specs.Lists.{cnt}
 use Rattle.machine.specs.Count.{eq?, ind-other, cnt-append, cnt-le-all}
 use Rattle.machine.specs.Heap.{Heap, bin, sizeOf, binned}
@@ -112,12 +112,13 @@ sort-ends h w c g k mc =
     let B = binOf-bounds (sizeOf h c) (size-32 h c s (omega (arith, s .own c, cnt-le-all c (h .bins) 1))) in
     let hj : j < length (h₁ .bins) = omega (arith, s₁ .binned127, B .1) in
     let S = sorts h₁ c (size-32 h c s (omega (arith, s .own c, cnt-le-all c (h .bins) 1))) in
+    let lc : 64 ≤ j → 1024 ≤ sizeOf h c = binOf-wide (sizeOf h c) in
     let Q : Heap → Type 0 = λ g. Good g × (g .stacks ≡ h .stacks) × (g .remainder ≡ h .remainder) in
     ends-more ws (sortIn c h₁) (ends-by (S .is) (record {
-      mem = link-mem h₁ (apply ws w) j c (S .xs) (S .ys) s₁ (unlink-mem h w 1 c s k mc) hj lo (S .list);
+      mem = link-mem h₁ (apply ws w) j c (S .xs) (S .ys) s₁ (unlink-mem h w 1 c s k mc) hj lo (S .list) lc;
       now = (
         record {
-          shape = link-shape h₁ j c (S .xs) (S .ys) s₁ hj lo (S .list);
+          shape = link-shape h₁ j c (S .xs) (S .ys) s₁ hj lo (S .list) lc;
           homes = homes-link h₁ j c (S .xs) (S .ys) (omega (arith, B .0)) hj (S .list) (λ z. refl) (λ z. S .falling z (m₁ .falling j z)) m₁;
           flag = flags-above (λ x. binned h x) (λ x. binned (heapOf (linkIn j c (S .xs) (S .ys) h₁)) x) 0 0 0 0 (all h) refl
               (λ x z. omega (arith, binned-link h₁ j c x (S .xs) (S .ys) hj (S .list), binned-unlink h 1 c x mc)) (g .flag);

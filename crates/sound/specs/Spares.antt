@@ -8,17 +8,20 @@ use native.Mathlib.Omega.{arith}
 use lib.Dec.{eqb}
 use lib.ListN.{getD}
 use lib.Seq.{getD-set-other}
-use Rattle.sizes.specs.Limits.{none64}
-use Rattle.machine.specs.Lists.{hd, lst, pre, post, ind, cnt}
-use Rattle.machine.specs.Count.{eq?, ind-other, cnt-append, cnt-here, cnt-le-all}
+use Rattle.sizes.specs.Limits.{large, firstLarge}
+use Rattle.machine.specs.Lists.{pre, post, ind, cnt}
+use Rattle.machine.specs.Count.{eq?, ind-same, ind-other, cnt-append, cnt-le-all}
 use Rattle.machine.specs.Heap.{Tile, tile, Heap, bin, endFrom, startsFrom, topSize, starts, sizeOf}
 use Rattle.machine.specs.Writes.{Write, who, field, value, put, apply, Ran, ran, heapOf, writes, more, _>>=_, size, note}
-use Rattle.machine.specs.Primitives.{fwdTo, backTo, linkIn, unlink}
+use Rattle.machine.specs.Primitives.{fwdTo, backTo, linksIn, linkIn, linksOut, unlink}
+use Rattle.machine.specs.Skips.{skipsIn, skipsOut}
 use Rattle.sound.specs.Relation.{all, tiled, Shape, Loose}
 use Rattle.sound.specs.Tiles.{zero-or, tiled-split, starts-append, Start, start, starts-once, Place, place}
-use Rattle.sound.specs.Frames.{Starts, starts-all, Sub, LinkW, link-append}
-use Rattle.sound.specs.Lists.{cut-cnt, fwd-w, back-w, link-more}
-use Rattle.sound.specs.Edits.{size-at, tiled-tiles, size-32, size-16}
+use Rattle.sound.specs.Frames.{Starts, starts-all, Sub, LinkW}
+use Rattle.sound.specs.Apart.{chunks-apart, clear-of, tiled-tiles}
+use Rattle.sound.specs.Lists.{cut-cnt, out-w, in-w}
+use Rattle.sound.specs.Rings.{SkipW, skipsIn-w, skipsOut-w, chunk-inside}
+use Rattle.sound.specs.Edits.{size-32, size-16}
 
 -- none of ws writes a usable word of the block x of size s: words x / 8 + 2 to (x + s) / 8
 abbrev pub Spares : ℕ → ℕ → List Write → Type 0
@@ -71,38 +74,6 @@ past-back (y ∷ ys) c = (omega arith, tt)
 pub past-ends : (xs ys : List ℕ) (c d : ℕ) → Past (fwdTo xs c ++ backTo ys d)
 past-ends xs ys c d = past-append (fwdTo xs c) (backTo ys d) (past-fwd xs c) (past-back ys d)
 
--- a chunk's start lies before x, is x, or lies after x's end
-pub clear-of : (h : Heap) (x y : ℕ) → Shape h → 1 ≤ cnt x (starts h) → 1 ≤ cnt y (Starts h)
-    → (y + 32 ≤ x) ⊎ ((y ≡ x) ⊎ (x + sizeOf h x ≤ y))
-clear-of h x y s mx my =
-    let P : Place (h .tiles) 0 x = place (h .tiles) 0 x mx in
-    let T : Tile = tile (topSize h) 1 0 in
-    let e : all h ≡ P .a ++ P .t ∷ (P .z ++ T ∷ []) = ap (λ (l : List Tile). l ++ T ∷ []) (P .tiles) ∙ append-assoc (P .a) (P .t ∷ P .z) (T ∷ []) in
-    let f : tiled (P .a) × tiled (P .t ∷ (P .z ++ T ∷ [])) = tiled-split (P .a) (P .t ∷ (P .z ++ T ∷ [])) (subst tiled e (s .sizes)) in
-    let sz : sizeOf h x ≡ P .t .size = ap (sizeOf h) (P .at) ∙ size-at h (P .a) (P .z) (P .t) (P .tiles) (f .0) in
-    let c : cnt y (Starts h) ≡ cnt y (startsFrom 0 (P .a)) + (ind (eqb y (endFrom 0 (P .a))) + cnt y (startsFrom (endFrom 0 (P .a) + P .t .size) (P .z ++ T ∷ [])))
-    = ap (λ (l : List Tile). cnt y (startsFrom 0 l)) e ∙ starts-append 0 (P .a) (P .t ∷ (P .z ++ T ∷ [])) y in
-    ⊎-elim
-    (λ z. ⊎-elim
-    (λ q. inr (inl q))
-    (λ q.
-    let g : Start (P .z ++ T ∷ []) (endFrom 0 (P .a) + P .t .size) y = start (P .z ++ T ∷ []) (endFrom 0 (P .a) + P .t .size) y (f .1 .3)
-    (omega (arith, c, ind-other y (endFrom 0 (P .a)) (λ r. q (r ∙ sym (P .at))))) in
-    inr (inr (omega (arith, sz, P .at, g .low))))
-    (eq? y x))
-    (λ z. let g : Start (P .a) 0 y = start (P .a) 0 y (f .0) z in inl (omega (arith, P .at, g .high)))
-    (zero-or (cnt y (startsFrom 0 (P .a))))
-
--- two chunks lie apart
-pub chunks-apart : (h : Heap) (x y : ℕ) → Shape h → 1 ≤ cnt x (starts h) → 1 ≤ cnt y (starts h) → (x ≡ y → ⊥) → (x + sizeOf h x ≤ y) ⊎ (y + sizeOf h y ≤ x)
-chunks-apart h x y s mx my n = ⊎-elim
-    (λ l. ⊎-elim
-    (λ i. absurd (omega arith))
-    (λ i. ⊎-elim (λ j. absurd (n j)) (λ j. inr j) i)
-    (clear-of h y x s my (omega (arith, starts-all h x))))
-    (λ i. ⊎-elim (λ j. absurd (n (sym j))) (λ j. inl j) i)
-    (clear-of h x y s mx (omega (arith, starts-all h y)))
-
 -- a write of a link of another chunk
 pub spare-links : (h : Heap) (x : ℕ) (L : List ℕ) (ws : List Write) → Shape h → 1 ≤ cnt x (starts h) → Sub L (Starts h) → cnt x L ≡ 0 → LinkW L ws
     → Spares x (sizeOf h x) ws
@@ -120,41 +91,50 @@ spare-links h x L (e ∷ ws) s mx sub out k =
       spare-links h x L ws s mx sub out (k .2),
     )
 
+-- and of a skip link of another chunk
+pub spare-skips : (h : Heap) (x : ℕ) (L : List ℕ) (ws : List Write) → Shape h → 1 ≤ cnt x (starts h) → Sub L (starts h) → cnt x L ≡ 0 → SkipW (λ y. sizeOf h y) L ws
+    → Spares x (sizeOf h x) ws
+spare-skips h x L [] s mx sub out k = tt
+spare-skips h x L (e ∷ ws) s mx sub out k =
+    let gy = chunk-inside h s (who e) (sub (who e) (k .1)) .0 in
+    let gx = chunk-inside h s x mx .0 in (
+      ⊎-elim (λ z. inr (omega (arith, k .0, gy, gx))) (λ z. inl (omega (arith, k .0, k .2, gy, gx)))
+          (chunks-apart h x (who e) s mx (sub (who e) (k .1)) (λ q. omega (arith, out, k .1, ap (λ (y : ℕ). cnt y L) q))),
+      spare-skips h x L ws s mx sub out (k .4),
+    )
+
+pub past-skips : (sz : ℕ → ℕ) (L : List ℕ) (ws : List Write) → SkipW sz L ws → Past ws
+past-skips sz L [] k = tt
+past-skips sz L (e ∷ ws) k = (omega (arith, k .0), past-skips sz L ws (k .4))
+
 pub unlink-spares : (h : Heap) (j c x : ℕ) → Shape h → Loose h x → 1 ≤ cnt c (bin h j) → Spares x (sizeOf h x) (writes (unlink j c h))
 unlink-spares h j c x s lo mc =
     let xs : List ℕ = pre c (bin h j) in
     let ys : List ℕ = post c (bin h j) in
-    let up : (y : ℕ) → cnt y (xs ++ ys) ≡ cnt y xs + cnt y ys = λ y. cnt-append y xs ys in
-    spare-links h x (xs ++ ys) (writes (unlink j c h)) s (omega arith)
-    (λ y i. omega (arith, s .own y, starts-all h y, cut-cnt c (bin h j) mc y, up y, cnt-le-all y (h .bins) j))
-    (omega (arith, lo, once, cut-cnt c (bin h j) mc x, up x, cnt-le-all x (h .bins) j))
-    (link-append (xs ++ ys) (fwdTo xs (hd none64 ys)) (backTo ys (lst none64 xs))
-    (link-more xs (xs ++ ys) (fwdTo xs (hd none64 ys)) (λ y i. omega (arith, up y)) (fwd-w xs (hd none64 ys)))
-    (link-more ys (xs ++ ys) (backTo ys (lst none64 xs)) (λ y i. omega (arith, up y)) (back-w ys (lst none64 xs))))
-  where
-    once : cnt x (starts h) ≤ 1
-    once = starts-once (h .tiles) 0 x (tiled-tiles h s)
+    let few : (y : ℕ) → cnt y (xs ++ ys) ≤ cnt y (bin h j) = λ y. omega (arith, cut-cnt c (bin h j) mc y, cnt-append y xs ys) in
+    let out : cnt x (xs ++ ys) ≡ 0 = omega (arith, lo, starts-once (h .tiles) 0 x (tiled-tiles h s), few x, cnt-le-all x (h .bins) j) in
+    let sub : Sub (xs ++ ys) (starts h) = λ y i. omega (arith, s .own y, few y, cnt-le-all y (h .bins) j) in
+    spares-append x (sizeOf h x) (linksOut xs ys) (skipsOut j (λ y. sizeOf h y) (xs ++ ys))
+    (spare-links h x (xs ++ ys) (linksOut xs ys) s (omega arith) (λ y i. omega (arith, sub y i, starts-all h y)) out (out-w xs ys))
+    (spare-skips h x (xs ++ ys) (skipsOut j (λ y. sizeOf h y) (xs ++ ys)) s (omega arith) sub out
+    (skipsOut-w j (λ y. sizeOf h y) (xs ++ ys) (λ z y i. s .roomy j y z (omega (arith, few y)))))
 
-pub link-spares : (h : Heap) (j c x : ℕ) (xs ys : List ℕ) → Shape h → Loose h x → Loose h c → (x ≡ c → ⊥) → bin h j ≡ xs ++ ys
+pub link-spares : (h : Heap) (j c x : ℕ) (xs ys : List ℕ) → Shape h → Loose h x → Loose h c → (x ≡ c → ⊥) → bin h j ≡ xs ++ ys → (firstLarge ≤ j → large ≤ sizeOf h c)
     → Spares x (sizeOf h x) (writes (linkIn j c xs ys h))
-link-spares h j c x xs ys s lo lc ne e =
+link-spares h j c x xs ys s lo lc ne e lw =
     let L : List ℕ = c ∷ (xs ++ ys) in
+    let ls : List ℕ = xs ++ c ∷ ys in
     let up : (y : ℕ) → cnt y (bin h j) ≡ cnt y xs + cnt y ys = λ y. ap (cnt y) e ∙ cnt-append y xs ys in
     let up′ : (y : ℕ) → cnt y (xs ++ ys) ≡ cnt y xs + cnt y ys = λ y. cnt-append y xs ys in
-    spare-links h x L (writes (linkIn j c xs ys h)) s (omega arith)
-    (λ y i. ⊎-elim (λ q. rw q (omega (arith, starts-all h c)))
-    (λ q. omega (arith, ind-other y c q, s .own y, starts-all h y, up y, up′ y, cnt-le-all y (h .bins) j)) (eq? y c))
-    (omega (arith, lo, starts-once (h .tiles) 0 x (tiled-tiles h s), ind-other x c ne, up x, up′ x, cnt-le-all x (h .bins) j)) (
-      omega arith,
-      cnt-here c (xs ++ ys),
-      (
-        omega arith,
-        cnt-here c (xs ++ ys),
-        link-append L (fwdTo xs c) (backTo ys c)
-            (link-more xs L (fwdTo xs c) (λ y i. omega (arith, up′ y)) (fwd-w xs c))
-            (link-more ys L (backTo ys c) (λ y i. omega (arith, up′ y)) (back-w ys c)),
-      ),
-    )
+    let all′ : (y : ℕ) → cnt y ls ≡ cnt y (bin h j) + ind (eqb y c) = λ y. omega (arith, cnt-append y xs (c ∷ ys), up y) in
+    let out : cnt x (bin h j) ≡ 0 = omega (arith, lo, starts-once (h .tiles) 0 x (tiled-tiles h s), cnt-le-all x (h .bins) j) in
+    let sub : Sub ls (starts h) = λ y i. ⊎-elim (λ q. rw q (omega arith)) (λ q. omega (arith, all′ y, ind-other y c q, s .own y, cnt-le-all y (h .bins) j)) (eq? y c) in
+    spares-append x (sizeOf h x) (linksIn c xs ys) (skipsIn j (λ y. sizeOf h y) c ls)
+    (spare-links h x L (linksIn c xs ys) s (omega arith) (λ y i. omega (arith, sub y (omega (arith, all′ y, up y, up′ y)), starts-all h y))
+    (omega (arith, out, up x, up′ x, ind-other x c ne)) (in-w c xs ys))
+    (spare-skips h x ls (skipsIn j (λ y. sizeOf h y) c ls) s (omega arith) sub (omega (arith, out, all′ x, ind-other x c ne))
+    (skipsIn-w j (λ y. sizeOf h y) c ls (omega (arith, all′ c, ind-same c))
+    (λ z y i. ⊎-elim (λ q. rw q (lw z)) (λ q. s .roomy j y z (omega (arith, all′ y, ind-other y c q))) (eq? y c))))
 
 -- a size word is in no block's usable words
 pub spare-size : (h : Heap) (x c z p : ℕ) → Shape h → Loose h x → 1 ≤ cnt c (Starts h) → Spares x (sizeOf h x) (size c z p ∷ [])

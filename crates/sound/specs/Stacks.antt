@@ -15,6 +15,7 @@ use Rattle.machine.specs.Writes.{Write, put, apply, heapOf, does, link, key}
 use Rattle.machine.specs.Primitives.{push, pop, pushCache, takeCache}
 use Rattle.sound.specs.Relation.{all, chain, Mem, Shape, Loose, stackSize, Good}
 use Rattle.sound.specs.Frames.{Agree, chain-cong, links-cong, set-cases, Starts, starts-all, Grid, grid, Sub, apply-length, put-length, put-other, put-same, agree, LinkW, link-low, link-out, tiles-agree, in-starts}
+use Rattle.sound.specs.Rings.{link-low-w, low-skips}
 use Rattle.sound.specs.Ends.{Ends}
 
 cnt-tl : (x : ℕ) (l : List ℕ) → cnt x (tl l) ≤ cnt x l
@@ -44,6 +45,7 @@ pop-ends h w k hk g m =
         keys = λ z j x p. set-cases (λ l. 1 ≤ cnt x l → getD w (keyWord x) 0 ≡ h .key) (h .stacks) k l j hk′
             (λ e i. m .keys z j x p (rw e (omega (arith, cnt-tl x (stack h k))))) (λ e. m .keys z j x p);
         key64 = m .key64;
+        skipped = m .skipped;
       };
       now = record {
         shape = record {
@@ -52,6 +54,7 @@ pop-ends h w k hk g m =
           stacked74 = length-set (h .stacks) k l ∙ s .stacked74;
           binned127 = s .binned127;
           own = λ x. omega (arith, s .own x, cnt-tl x (stack h k), cntAll-set x (h .stacks) k l hk′);
+          roomy = s .roomy;
         };
         homes = record {
           stacked = λ j x. set-cases (λ l. 1 ≤ cnt x l → sizeOf h x ≡ stackSize j) (h .stacks) k l j hk′
@@ -92,6 +95,7 @@ loose-mem h w c ws s m lo lw =
           (ag 3 (bin h j) (omega arith) (λ y. omega (arith, cnt-le-all y (h .bins) j))) (m .blinks j);
       keys = λ z j x p i. ag 3 (stack h j) (omega arith) (λ y. omega (arith, cnt-le-all y (h .stacks) j)) x i ∙ m .keys z j x p i;
       key64 = m .key64;
+      skipped = λ z. low-skips h s ws w (link-low-w h s (c ∷ []) ws sc lw) (m .skipped z);
     }
 
 -- ---- c, which no list has, goes on stack k; its words are v's, with its link, and in the cache the key
@@ -116,6 +120,7 @@ pushed-ends h w k c ws hk g m lo sz qk sh lw el ek =
             (λ (q : x ≡ c → ⊥). n .keys z j x p (rw e (omega (arith, ind-other x c q)))) (eq? x c))
             (λ e. n .keys z j x p);
         key64 = n .key64;
+        skipped = n .skipped;
       };
       now = record {
         shape = record {
@@ -126,6 +131,7 @@ pushed-ends h w k c ws hk g m lo sz qk sh lw el ek =
           own = λ x. ⊎-elim
               (λ q. rw q (omega (arith, ind-same c, cntAll-set c (h .stacks) k l hk′)))
               (λ q. omega (arith, ind-other x c q, s .own x, cntAll-set x (h .stacks) k l hk′)) (eq? x c);
+          roomy = s .roomy;
         };
         homes = record {
           stacked = λ j x. set-cases (λ l. 1 ≤ cnt x l → sizeOf h x ≡ stackSize j) (h .stacks) k l j hk′

@@ -12,7 +12,7 @@ use borrow.Author.Tests.{eqb-true, ltb-true, leb-true}
 use Rattle.sizes.specs.Limits.{mostCached, cacheRoom, large, unsorted, none64}
 use Rattle.sizes.specs.Sizes.{cacheOf, binOf}
 use Rattle.sizes.specs.SizesLaws.{cacheOf-bound}
-use Rattle.sizes.specs.BinLaws.{binOf-bounds}
+use Rattle.sizes.specs.BinLaws.{binOf-bounds, binOf-wide}
 use Rattle.machine.specs.Lists.{both, lst, some?, cnt}
 use Rattle.machine.specs.Count.{cnt-le-all}
 use Rattle.machine.specs.Heap.{Heap, stack, cache, bin, sizeOf, next, total}
@@ -106,7 +106,7 @@ module _ (b : ℕ) (b16 : b % 16 ≡ 0) (b32 : 32 ≤ b) where
         leaves-giving T.Binned
         (leaves-of (sort-ends h w c g m mc)
         (moved-then (λ n. sortIn c n) (unlink-moved h 1 c s mc)
-        (moved-by (S .is) (link-moved h₁ j c (S .xs) (S .ys) s₁ hj (unlink-loose h 1 c s mc) (S .list)))
+        (moved-by (S .is) (link-moved h₁ j c (S .xs) (S .ys) s₁ hj (unlink-loose h 1 c s mc) (S .list) (binOf-wide (sizeOf h c))))
         (λ a x. omega arith) (λ x lo z. (refl, listed-not h x c s lo tot)))) (λ a x. refl)
         (λ a n p. (p .0, record { lists = λ k i. ap (λ (ls : List (List ℕ)). getD ls k []) (p .1); remainder = p .2 }))
 

@@ -17,8 +17,9 @@ use Rattle.machine.specs.Primitives.{unlink, setP, setRemainder}
 use Rattle.machine.specs.Grant.{takeLast, split, carve, step8}
 use Rattle.sound.specs.Relation.{tiled, Mem, Loose, Good}
 use Rattle.sound.specs.Tiles.{tiled-split, tiled-join, end-append, starts-append, none-out, Place, place}
+use Rattle.sound.specs.Apart.{size-at, tiled-tiles}
 use Rattle.sound.specs.Lists.{unlink-mem}
-use Rattle.sound.specs.Edits.{size-at, snoc-end, snoc-tiles, size-next, Kept, tiled-tiles, note-is, note-kept, cut-is, cut-kept, size-place}
+use Rattle.sound.specs.Edits.{snoc-end, snoc-tiles, size-next, Kept, note-is, note-kept, cut-is, cut-kept, size-place}
 use Rattle.sound.specs.Carve.{Out, Outs, take-out, split-is, mark-ends, split-ends, remainder-good, remainder-mem}
 use Rattle.sound.specs.Moves.{nil, one, any, Moved, listed-not, moved-more, moved-by, unlink-moved, link-moved, set-moved, note-moved, cut-moved}
 use Rattle.sound.specs.Leaves.{Leaves, leaves-of, leaves-weaken, leaves-if, leaves-giving, leaves-next, leaves-then, leaves-widen, gave, Still, Found}
@@ -69,7 +70,7 @@ module _ (h : Heap) (w : List ℕ) (a r : List Tile) (t u : Tile) (O : Out h a t
       let ts₁ : List Tile = a ++ A₁ ∷ B₁ ∷ u ∷ r in
       let h₁ : Heap = withTiles ts₁ h in
       let ws : List Write = size c n 1 ∷ size (c + n) z 1 ∷ [] in
-      let K₁ : Kept h ts₁ w ws = cut-kept h w a (u ∷ r) t (O .tiles) s n n16 n32 nt k in
+      let K₁ : Kept h ts₁ w ws = cut-kept h w a (u ∷ r) t (O .tiles) s n n16 n32 nt k (O .loose) in
       let a₂ : List Tile = a ++ A₁ ∷ B₁ ∷ [] in
       let e₂ : ts₁ ≡ a₂ ++ u ∷ r = sym (append-assoc a (A₁ ∷ B₁ ∷ []) (u ∷ r)) in
       let x : ℕ = endFrom 0 a₂ in
@@ -106,7 +107,7 @@ module _ (h : Heap) (w : List ℕ) (a r : List Tile) (t u : Tile) (O : Out h a t
       (moved-by (sym ci) (cut-moved h a (u ∷ r) t (O .tiles) s n n16 n32 nt (K₁ .shape)))
       (moved-more {i = any nil} {o = one (c + n)}
       (moved-by (sym ni) (note-moved h₁ a₂ r u e₂ (K₁ .shape) (c + n) z here nn))
-      (link-moved h₂ 1 (c + n) [] (bin h₂ 1) (K₂ .shape) (omega (arith, s .binned127)) lo refl)
+      (link-moved h₂ 1 (c + n) [] (bin h₂ 1) (K₂ .shape) (omega (arith, s .binned127)) lo refl (λ z. absurd (omega (arith, z))))
       (λ b y. omega arith) (λ y l q. (q, q)))
       (λ b y. omega arith) (λ y l q. (q, other y l)))
 

@@ -15,6 +15,8 @@ use Rattle.machine.specs.Heap.{Tile, tile, Heap, stack, bin, binned, starts, st
 use Rattle.sound.specs.Relation.{Mem, Loose, Good, tiled, tilesAt, flags}
 use Rattle.sound.specs.Tiles.{tiled-split, end-le, end-even, Start, start, starts-once, tiles-split, tiles-join}
 use Rattle.sound.specs.Frames.{chain-cong, links-cong}
+use Rattle.sound.specs.Apart.{chunks-apart}
+use Rattle.sound.specs.Rings.{chunk-inside, skips-kept}
 
 -- word i is a usable word of the live block c: its usable bytes go from c + 16 to the next chunk's previous size
 abbrev pub Usable : Heap → ℕ → ℕ → Type 0
@@ -146,6 +148,17 @@ module _ (h : Heap) (w v : List ℕ) (g : Good h) (q : Mem h w) (a : Agrees h w 
           (λ i. omega (arith, l .0 .even, l .1, k .even))
           (tiles-apart (h .tiles) 0 c x refl whole (l .3) (inl m))
 
+  -- the skip links of a large one
+  skip-words : (x i : ℕ) → 1 ≤ total x h → 1024 ≤ sizeOf h x → i / 2 ≡ 2 → getD v (x / 8 + i) 0 ≡ getD w (x / 8 + i) 0
+  skip-words x i n lx hi = a .same (x / 8 + i) (λ c u.
+      let l = live c (u .0) in
+      let m : 1 ≤ cnt x (starts h) = omega (arith, n, g .shape .own x) in
+      let k = chunk-inside h (g .shape) x m in
+      ⊎-elim
+      (λ e. omega (arith, n, l .2, ap (λ (y : ℕ). total y h) e))
+      (λ e. ⊎-elim (λ r. omega (arith, u .1, l .0 .even, k .0)) (λ r. omega (arith, u .2, l .0 .even, l .1, k .0)) (chunks-apart h x c (g .shape) m (l .3) e))
+      (eq? x c))
+
   bin-words : (x j : ℕ) → 1 ≤ cnt x (bin h j) → (getD v (fwdWord x) 0 ≡ getD w (fwdWord x) 0) × (getD v (backWord x) 0 ≡ getD w (backWord x) 0)
   bin-words x j m = link-words x (omega (arith, m, cnt-le-all x (h .bins) j))
 
@@ -159,6 +172,7 @@ module _ (h : Heap) (w v : List ℕ) (g : Good h) (q : Mem h w) (a : Agrees h w 
     blinks = λ j. links-cong w v _ (bin h j) _ (λ x m. bin-words x j m .0) (λ x m. bin-words x j m .1) (q .blinks j);
     keys = λ z k x p m. link-words x (omega (arith, m, cnt-le-all x (h .stacks) k)) .1 ∙ q .keys z k x p m;
     key64 = q .key64;
+    skipped = λ z. skips-kept h (g .shape) w v (λ x i mx mb lx hi. skip-words x i (omega (arith, mb)) lx hi) (q .skipped z);
   }
     where
       t : tilesAt w 0 (h .tiles) × tilesAt w (topOf h) (tile (topSize h) 1 0 ∷ [])

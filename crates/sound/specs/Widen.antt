@@ -13,10 +13,11 @@ use Rattle.machine.specs.Primitives.{unlink, widen, growTop}
 use Rattle.machine.specs.Resize.{finish}
 use Rattle.sound.specs.Relation.{tiled, Mem, Shape, Loose, flags, Homes, Good}
 use Rattle.sound.specs.Tiles.{tiled-split, tiled-join, end-le, end-append, none-out, starts-once, Place, place}
+use Rattle.sound.specs.Apart.{size-at, sizes-mid, tiled-tiles, tiles-at}
 use Rattle.sound.specs.Lists.{unlink-shape, unlink-loose, unlink-mem}
-use Rattle.sound.specs.Edits.{tiles-at, size-at, snoc-end, snoc-tiles, size-next, top-mid, tiled-tiles, widen-is, widen-kept, grow-is, grow-kept, size-place}
+use Rattle.sound.specs.Edits.{snoc-end, snoc-tiles, size-next, top-mid, widen-is, widen-kept, grow-is, grow-kept, size-place}
 use Rattle.sound.specs.Flags.{flagsAfter, flags-split, flags-join, flags-below, after-above, flags-after}
-use Rattle.sound.specs.Homes.{homes-tiles, sizes-mid, homes-unlink, homes-whole}
+use Rattle.sound.specs.Homes.{homes-tiles, homes-unlink, homes-whole}
 use Rattle.sound.specs.Join.{binned-unlink, bin-has}
 use Rattle.sound.specs.Spares.{unlink-spares}
 use Rattle.sound.specs.Moves.{one, listed-not, moved-by, unlink-moved, widen-moved, grow-moved}
@@ -101,7 +102,7 @@ module _ (h : Heap) (w : List ℕ) (a r : List Tile) (t u : Tile) (B : Beside h 
       let ez : c + t .size + u .size ≡ c + (t .size + u .size) = omega arith in
       let F = flags-split b 0 0 0 a (t ∷ []) (B .low) in
       record {
-        shape = widen-kept h w a r t u (B .tiles) (B .shape) k (B .behind) .shape;
+        shape = widen-kept h w a r t u (B .tiles) (B .shape) k (B .loose) (B .behind) .shape;
         homes = homes-whole h a r t u U (B .tiles) (B .shape) refl (f .1 .2) (B .loose) (B .behind) (B .homes);
         tiles = refl;
         low = flags-join b 0 0 0 a (U ∷ []) (F .0) (F .1 .0, F .1 .1, F .1 .2, tt);
@@ -121,7 +122,7 @@ module _ (h : Heap) (w : List ℕ) (a r : List Tile) (t u : Tile) (B : Beside h 
       subst (λ (x : Ran (Unit {0})). InPlace c b (t .p) (λ x. one c x + one (c + t .size) x) h w (x >>= (λ g. finish c b g))) (sym wi)
       (in-place-next {r = does h₁ ws} (λ g. finish c b g)
       (moved-by (sym wi) (widen-moved h a r t u e s)) (inl (omega arith), tt) (omega (arith, z₀, z₁))
-      (finish-in-place h₁ (apply ws w) a U r widened (widen-kept h w a r t u e s k (B .behind) .mem) b b16 b32 l)
+      (finish-in-place h₁ (apply ws w) a U r widened (widen-kept h w a r t u e s k (B .loose) (B .behind) .mem) b b16 b32 l)
       (λ x. omega arith) (λ x lo z. (z, omega arith)))
 
 -- ---- c takes in a binned chunk behind it
@@ -198,7 +199,7 @@ grown h w a t [] b g k e lo b16 b32 tp tb l =
     let gi = grow-is h a t b e s in
     let f : tiled a × tiled (t ∷ []) = tiled-split a (t ∷ []) (subst tiled e (tiled-tiles h s)) in
     let ft : tiled (h .tiles) × tiled (tile (topSize h) 1 0 ∷ []) = tiled-split (h .tiles) (tile (topSize h) 1 0 ∷ []) (s .sizes) in
-    let K = grow-kept h w a t b e s k b16 b32 (omega (arith, ft .1 .1)) in
+    let K = grow-kept h w a t b e s k lo b16 b32 (omega (arith, ft .1 .1)) in
     let q : ℕ → ℕ = λ x. binned h x in
     let H = held-good h a t [] g e lo in
     let F = flags-split q 0 0 0 a (t ∷ []) (H .low) in

@@ -1,49 +1,28 @@
--- `primitives::link_in` meets its contract: `link-in-gave` says what the four calls come to. Assumes nothing.
-use mathlib.Core.Path.{_∙_}
-use native.Mathlib.Omega.{arith}
-use lib.ListN.{length}
-use denote.Ref.{now}
-use Rattle.primitives.specs.Chunks.{Inside}
-use Rattle.primitives.specs.Ends.{leads-kept}
-use Rattle.primitives.specs.Stacks.{ok-length, loose-inside}
-use Rattle.primitives.specs.Bins.{Ready, gap-ready, loose-narrow, link-in-gave}
+-- `primitives::link_in` meets its contract: the links, and the skip links that follow them. Assumes nothing.
+use Rattle.primitives.specs.Rings.{came-linked, came-has, link-in-whole}
 use borrow.Author.Needs.{needs}
 use Rattle.primitives.proofs.link_in.Statement.{statement}
 use Rattle.primitives.proofs.link_in.Tie as tie
 
-inside : (c : tie.Start) → Inside (length (now (c .args .a))) (c .args .c .0)
-inside c = loose-inside _ _ _ (c .pre .2 .ok) (c .args .c .0) (c .pre .2 .holds .0)
+link-between-requires : tie.Need-link-between-requires
+link-between-requires c κs =
+    let s = c .before .before .before .before in
+    (s .pre .0, s .pre .1, record { heap = s .pre .2 .heap; ok = s .pre .2 .ok; holds = (s .pre .2 .holds .0, s .pre .2 .holds .1) })
 
-ends : (c : tie.Start) → Ready (length (now (c .args .a))) (c .args .p .0) (c .args .n .0)
-ends c = gap-ready _ _ _ _ _ _ _ _ (c .pre .2 .ok) (c .pre .2 .holds .1 .gap)
-
-set-fwd-requires : tie.Need-set-fwd-requires
-set-fwd-requires c κs = let i = inside (c .before .before .before) in (omega arith, omega arith)
-
-set-back-requires : tie.Need-set-back-requires
-set-back-requires c κs = let i = inside (c .before .before .before .before .before .before .before) in (omega arith, omega (arith, c .before .before .before .set-fwd .kept .0))
-
-link-fwd-requires : tie.Need-link-fwd-requires
-link-fwd-requires c κs =
-    let k = c .before .before .before .before in
-    let d = k .before .before .before .before in
-    let s = d .before .before .before .before in (
+skips-in-requires : tie.Need-skips-in-requires
+skips-in-requires c κs =
+    let s = c .before .before .before .before .before .before .before .before .before .before .before in
+    let h = s .pre .2 .heap in
+    let o = s .pre .2 .ok in
+    let lo = s .pre .2 .holds .0 in
+    let b = s .pre .2 .holds .1 in
+    let m = c .before .before .before .before .before .before .link-between .ensures h (b .xs) (b .ys) o lo (b .gap) in (
       s .pre .1,
-      ok-length _ _ _ (s .pre .2 .ok),
-      leads-kept _ _ _ (k .set-back .kept .0 ∙ d .set-fwd .kept .0) (ends s .pin),
-      loose-narrow _ _ _ (s .pre .2 .ok) _ (s .pre .2 .holds .0),
-    )
-
-link-back-requires : tie.Need-link-back-requires
-link-back-requires c κs =
-    let f = c .before .before .before .before .before .before in
-    let k = f .before .before .before .before .before in
-    let d = k .before .before .before .before in
-    let s = d .before .before .before .before in (
-      s .pre .1,
-      f .link-fwd .kept .1 .0 ∙ ok-length _ _ _ (s .pre .2 .ok),
-      leads-kept _ _ _ (f .link-fwd .kept .0 ∙ k .set-back .kept .0 ∙ d .set-fwd .kept .0) (ends s .nin),
-      loose-narrow _ _ _ (s .pre .2 .ok) _ (s .pre .2 .holds .0),
+      record {
+        heap = _;
+        linked = came-linked h _ _ o (s .args .j) (s .args .c .0) _ _ (b .xs) (b .ys) (s .pre .0) (s .pre .1) lo (b .gap) (s .pre .2 .holds .2) m;
+        holds = came-has h _ _ o (s .args .j) (s .args .c .0) (b .xs) (b .ys) (s .pre .0) (s .pre .1);
+      },
     )
 
 same-length : tie.Need-same-length
@@ -54,15 +33,12 @@ same-length-2 c = search needs
 
 returns : tie.Need-returns
 returns c =
-    let b = c .before .before .before .before in
-    let f = b .before .before .before .before .before .before .before in
-    let k = f .before .before .before .before .before in
-    let d = k .before .before .before .before in
-    let s = d .before .before .before .before in
-    λ h xs ys o lo g. link-in-gave h _ _ o (s .args .j) (s .args .c .0) _ _ xs ys _ _ _ _ _ _ (s .pre .0) (s .pre .1) lo g (d .set-fwd .ensures) (k .set-back .ensures)
-    (f .link-fwd .ensures .0) (f .link-fwd .ensures .1) (b .link-back .ensures .0) (b .link-back .ensures .1)
+    let s = c .before .before .before .before .before .before .before .before .before .before .before .before .before .before in
+    λ h xs ys o lo g f.
+    let m = c .before .before .before .before .before .before .before .before .before .link-between .ensures h xs ys o lo g in
+    link-in-whole h _ _ o (s .args .j) (s .args .c .0) xs ys (s .pre .0) (s .pre .1) m
+    (c .before .before .skips-in .ensures _ (came-linked h _ _ o (s .args .j) (s .args .c .0) _ _ xs ys (s .pre .0) (s .pre .1) lo g f m)
+    (came-has h _ _ o (s .args .j) (s .args .c .0) xs ys (s .pre .0) (s .pre .1)))
 
 pub link-in-spec : {M : Type 1} → statement M
-link-in-spec =
-    tie.close
-    (tie.spec set-fwd-requires set-back-requires link-fwd-requires link-back-requires same-length same-length-2 returns)
+link-in-spec = tie.close (tie.spec link-between-requires skips-in-requires same-length same-length-2 returns)

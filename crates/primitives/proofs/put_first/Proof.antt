@@ -25,8 +25,8 @@ link-in-requires c κs =
     let b = k .before .before in
     let s = b .before .before .before in
     let h = s .pre .2 .heap in
-    let g = first-gap h _ _ (s .pre .2 .ok) (s .args .j) _ _ (s .pre .0) (s .pre .1) (b .bin-first .ensures) (k .link-of .ensures) in
-    (s .pre .0, s .pre .1, record { heap = h; ok = s .pre .2 .ok; holds = (s .pre .2 .holds, record { xs = []; ys = _; gap = g }) })
+    let g = first-gap h _ _ (s .pre .2 .ok) (s .args .j) _ _ (s .pre .0) (omega (arith, s .pre .1)) (b .bin-first .ensures) (k .link-of .ensures) in
+    (s .pre .0, omega (arith, s .pre .1), record { heap = h; ok = s .pre .2 .ok; holds = (s .pre .2 .holds, record { xs = []; ys = _; gap = g }, λ z. absurd (omega (arith, z, s .pre .1))) })
 
 same-length : tie.Need-same-length
 same-length c = search needs
@@ -42,7 +42,8 @@ returns c =
     let s = b .before .before .before in
     record {
       does = λ h o lo.
-          l .link-in .ensures h [] _ o lo (first-gap h _ _ o (s .args .j) _ _ (s .pre .0) (s .pre .1) (b .bin-first .ensures) (k .link-of .ensures));
+          l .link-in .ensures h [] _ o lo (first-gap h _ _ o (s .args .j) _ _ (s .pre .0) (omega (arith, s .pre .1)) (b .bin-first .ensures) (k .link-of .ensures))
+          (λ z. absurd (omega (arith, z, s .pre .1)));
     }
 
 pub put-first-spec : {M : Type 1} → statement M

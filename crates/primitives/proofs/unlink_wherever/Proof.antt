@@ -1,45 +1,14 @@
--- `primitives::unlink_wherever` meets its contract: the first and the last of a bin by the bin that unsorted's ends tell of (`first-home`, `last-home`), the
--- others by their two links (`unlink-inner-gave`). Assumes nothing.
-use mathlib.Core.Path.{_≡_, sym, subst, _∙_}
-use Prim.Native.Nat.{ℕ}
+-- `primitives::unlink_wherever` meets its contract: the links, and the ring of the size's bin where the chunk is large. Assumes nothing.
+use mathlib.Core.Path.{_∙_}
 use native.Mathlib.Omega.{arith}
-use lib.ListN.{length}
-use denote.Ref.{now}
-use Rattle.le.specs.Arena.{arenaWords}
-use Rattle.machine.specs.Heap.{Heap}
-use Rattle.machine.specs.Primitives.{unlink}
-use Rattle.primitives.specs.Follow.{Ok, Gave, Does}
-use Rattle.primitives.specs.Places.{InBin, Home, home-in}
-use Rattle.primitives.specs.Chunks.{Inside}
-use Rattle.primitives.specs.Stacks.{ok-length}
-use Rattle.primitives.specs.Bins.{Ready, home-ready, home-inside, first-home, last-home, unlink-known-gave, unlink-inner-gave}
+use Rattle.sizes.specs.BinLaws.{binOf-large}
+use Rattle.primitives.specs.Rings.{left-linked, wherever-small, wherever-large}
 use borrow.Author.Needs.{needs}
 use Rattle.primitives.proofs.unlink_wherever.Statement.{statement}
 use Rattle.primitives.proofs.unlink_wherever.Tie as tie
 
-inside : (c : tie.Start) → Inside (length (now (c .args .a))) (c .args .c .0)
-inside c = home-inside _ _ _ _ _ (c .pre .ok) (c .pre .holds .home .here)
-
-back-at-requires : tie.Need-back-at-requires
-back-at-requires c κs = let i = inside (c .before .before .before) in (omega arith, omega arith)
-
-bin-first-requires : tie.Need-bin-first-requires
-bin-first-requires c κs = search needs
-
-mul-bin-of-end : tie.Need-mul-bin-of-end
-mul-bin-of-end c = search needs
-
-slice-read-bin-of-end : tie.Need-slice-read-bin-of-end
-slice-read-bin-of-end c = omega (arith, ok-length _ _ _ (c .before .before .before .before .before .before .before .before .pre .ok))
-
-bin-of-end-requires : tie.Need-bin-of-end-requires
-bin-of-end-requires c κs = search needs
-
-unlink-requires : tie.Need-unlink-requires
-unlink-requires c κs =
-    let s = c .before .before .before .before .before .before .before .before .before .before .before in
-    let j = c .before .before .bin-of-end .ensures ∙ first-home _ _ _ (s .pre .ok) _ _ _ _ _ (s .pre .holds .home) (c .before .before .before .before .before .before .before .back-at .ensures) (c .before .before .before .before .before .if1 .taken) (c .before .before .before .before .bin-first .ensures) in
-    record { heap = s .pre .heap; ok = s .pre .ok; holds = subst (λ (i : ℕ). InBin (s .pre .heap) i (s .args .c .0)) (sym j) (home-in _ _ _ _ (s .pre .holds .home)) }
+link-past-wherever-requires : tie.Need-link-past-wherever-requires
+link-past-wherever-requires c κs = search needs
 
 same-length : tie.Need-same-length
 same-length c = search needs
@@ -49,29 +18,23 @@ same-length-2 c = search needs
 
 returns : tie.Need-returns
 returns c =
-    let s = c .before .before .before .before .before .before .before .before .before .before .before .before .before .before .before .before in
-    λ h j o m. unlink-known-gave h _ _ o _ _ _ _ m (c .before .before .before .before .before .before .before .bin-of-end .ensures ∙ first-home h _ _ o _ _ _ _ _ m (c .before .before .before .before .before .before .before .before .before .before .before .before .back-at .ensures) (c .before .before .before .before .before .before .before .before .before .before .if1 .taken) (c .before .before .before .before .before .before .before .before .before .bin-first .ensures)) (c .before .before .before .before .unlink .ensures)
+    let s = c .before .before .before .before .before .before .before .before .before .before in
+    λ h j o m. wherever-small h _ _ o j (s .args .c .0) (s .args .z) m (c .if1 .taken) (c .before .before .before .before .before .link-past-wherever .ensures h j o m)
 
-fwd-at-requires : tie.Need-fwd-at-requires
-fwd-at-requires c κs = let i = inside (c .before .before .before .before .before .before .before) in (omega arith, omega arith)
+bin-of-requires : tie.Need-bin-of-requires
+bin-of-requires c κs = search needs
 
-bin-last-requires : tie.Need-bin-last-requires
-bin-last-requires c κs = search needs
-
-mul-bin-of-end-2 : tie.Need-mul-bin-of-end-2
-mul-bin-of-end-2 c = search needs
-
-slice-read-bin-of-end-2 : tie.Need-slice-read-bin-of-end-2
-slice-read-bin-of-end-2 c = omega (arith, ok-length _ _ _ (c .before .before .before .before .before .before .before .before .before .before .before .before .pre .ok))
-
-bin-of-end-requires-2 : tie.Need-bin-of-end-requires-2
-bin-of-end-requires-2 c κs = search needs
-
-unlink-requires-2 : tie.Need-unlink-requires-2
-unlink-requires-2 c κs =
-    let s = c .before .before .before .before .before .before .before .before .before .before .before .before .before .before .before in
-    let j = c .before .before .bin-of-end2 .ensures ∙ last-home _ _ _ (s .pre .ok) _ _ _ _ _ (s .pre .holds .home) (c .before .before .before .before .before .before .before .fwd-at .ensures) (c .before .before .before .before .before .if2 .taken) (c .before .before .before .before .bin-last .ensures) in
-    record { heap = s .pre .heap; ok = s .pre .ok; holds = subst (λ (i : ℕ). InBin (s .pre .heap) i (s .args .c .0)) (sym j) (home-in _ _ _ _ (s .pre .holds .home)) }
+renew-ring-requires : tie.Need-renew-ring-requires
+renew-ring-requires c κs =
+    let s = c .before .before .before .before .before .before .before .before .before .before .before .before .before in
+    let h = s .pre .heap in
+    let o = s .pre .ok in
+    let b = s .pre .holds in
+    let e = c .bin-of .ensures in (
+      omega (arith, e .0, binOf-large (s .args .z) (c .before .before .before .if1 .left)),
+      e .1,
+      record { heap = _; linked = left-linked h _ _ o (b .bin-no) (s .args .c .0) (b .home .here) (c .before .before .before .before .before .before .before .before .link-past-wherever .ensures h (b .bin-no) o (b .home)); holds = tt },
+    )
 
 same-length-3 : tie.Need-same-length-3
 same-length-3 c = search needs
@@ -81,28 +44,11 @@ same-length-4 c = search needs
 
 returns-2 : tie.Need-returns-2
 returns-2 c =
-    λ h j o m. unlink-known-gave h _ _ o _ _ _ _ m (c .before .before .before .before .before .before .before .bin-of-end2 .ensures ∙ last-home h _ _ o _ _ _ _ _ m (c .before .before .before .before .before .before .before .before .before .before .before .before .fwd-at .ensures) (c .before .before .before .before .before .before .before .before .before .before .if2 .taken) (c .before .before .before .before .before .before .before .before .before .bin-last .ensures)) (c .before .before .before .before .unlink2 .ensures)
-
-set-fwd-requires : tie.Need-set-fwd-requires
-set-fwd-requires c κs =
-    let s = c .before .before .before .before .before .before .before .before .before .before .before in
-    let e = home-ready _ _ _ _ _ _ _ (s .pre .ok) (s .pre .holds .home .here) (c .before .before .before .fwd-at .ensures) (c .before .before .before .before .before .before .before .back-at .ensures) in
-    let l = e .pin (c .before .before .before .before .before .if1 .left) in
-    (l .0, omega (arith, l .1))
-
-set-back-requires : tie.Need-set-back-requires
-set-back-requires c κs =
-    let s = c .before .before .before .before .before .before .before .before .before .before .before .before .before .before .before in
-    let e = home-ready _ _ _ _ _ _ _ (s .pre .ok) (s .pre .holds .home .here) (c .before .before .before .before .before .before .before .fwd-at .ensures) (c .before .before .before .before .before .before .before .before .before .before .before .back-at .ensures) in
-    let l = e .nin (c .before .before .before .before .before .if2 .left) in
-    (l .0, omega (arith, l .1, c .before .before .before .set-fwd .kept .0))
-
-same-length-5 : tie.Need-same-length-5
-same-length-5 c = search needs
-
-returns-3 : tie.Need-returns-3
-returns-3 c =
-    λ h j o m. unlink-inner-gave h _ _ o _ _ _ _ _ _ (home-in _ _ _ _ m) (c .before .before .before .before .before .before .before .before .before .before .fwd-at .ensures) (c .before .before .before .before .before .before .before .before .before .before .before .before .before .before .back-at .ensures) (c .before .before .before .before .before .before .before .before .before .before .before .before .if1 .left) (c .before .before .before .before .before .before .before .before .if2 .left) (c .before .before .before .before .before .before .set-fwd .ensures) (c .before .before .set-back .ensures)
+    let s = c .before .before .before .before .before .before .before .before .before .before .before .before .before .before .before .before in
+    λ h j o m.
+    let g = c .before .before .before .before .before .before .before .before .before .before .before .link-past-wherever .ensures h j o m in
+    wherever-large h _ _ o j (s .args .c .0) (s .args .z) _ m (c .before .before .before .before .before .before .if1 .left) (c .before .before .before .bin-of .ensures .0) g
+    (c .before .before .renew-ring .ensures _ (left-linked h _ _ o j (s .args .c .0) (m .here) g))
 
 pub unlink-wherever-spec : {M : Type 1} → statement M
-unlink-wherever-spec = tie.close (tie.spec back-at-requires bin-first-requires mul-bin-of-end slice-read-bin-of-end bin-of-end-requires unlink-requires same-length same-length-2 returns fwd-at-requires bin-last-requires mul-bin-of-end-2 slice-read-bin-of-end-2 bin-of-end-requires-2 unlink-requires-2 same-length-3 same-length-4 returns-2 set-fwd-requires set-back-requires same-length-5 returns-3)
+unlink-wherever-spec = tie.close (tie.spec link-past-wherever-requires same-length same-length-2 returns bin-of-requires renew-ring-requires same-length-3 same-length-4 returns-2)

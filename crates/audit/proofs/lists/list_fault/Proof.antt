@@ -1,7 +1,7 @@
 -- `lists::list_fault` meets its contract: the outer loop keeps Out, the inner one In, and each way out is a lemma of ListTurn. The measures are the lists
 -- to come, and the chunks that were not met. Assumes nothing.
 use mathlib.Core.Path.{_≡_, refl, sym, _∙_}
-use Prim.Native.Nat.{ℕ, _-_, _/_, _≤_, _<_}
+use Prim.Native.Nat.{ℕ, _-_, _*_, _/_, _≤_, _<_}
 use native.Mathlib.Omega.{arith}
 use lib.ListN.{length, length-set}
 use borrow.Author.Tests.{not-true, not-false}
@@ -12,7 +12,7 @@ use Rattle.machine.specs.declared.Audited.the-variants as A
 use Rattle.audit_walks.specs.Marks.{unmetMark}
 use Rattle.audit_walks.specs.TileTurn.{arena-length}
 use Rattle.audit.specs.MarkLaws.{unmet-inside, unmet-one, mark-less}
-use Rattle.audit.specs.ListTurn.{Out, In, lists-enter, list-skip, list-begin, list-met, list-misplaced, list-turn, list-end-bad, list-leave, lists-done, kind-words, kind-numbered}
+use Rattle.audit.specs.ListTurn.{Out, In, lists-enter, list-skip, list-begin, list-met, list-misplaced, list-turn, list-end-bad, list-walked, list-unlinked, list-leave, lists-done, kind-words, kind-numbered}
 use Rattle.audit.proofs.lists.list_fault.Statement.{statement}
 use Rattle.audit.proofs.lists.list_fault.Tie as tie
 
@@ -128,19 +128,27 @@ loop-again c =
 may-end-requires : tie.Need-may-end-requires Inv-loop μ-loop Inv-lists μ-lists
 may-end-requires c κs = (c .before .before .before .before .before .before .before .before .before .before .before .before .before .before .pre .1, kind-words _ _ (c .before .before .before .before .before .before .kind-at .ensures) (c .before .before .loop .inv .2) .1)
 
+skips-ok-requires : tie.Need-skips-ok-requires Inv-loop μ-loop Inv-lists μ-lists
+skips-ok-requires c κs =
+    let s = c .before .before .before .before .before .before .before .before .before .before .before .before .before .before .before .before in
+    let l = c .before .before .before .before .loop in
+    let w = arenaWords (s .args .a .now) in
+    let small : 8 * length w ≤ 262144 = omega (arith, arena-length (s .args .a .now) (s .pre .0 .arena), s .pre .0 .arena .small) in
+    (s .pre .1, kind-words _ _ (c .before .before .before .before .before .before .before .before .kind-at .ensures) (l .inv .2) .0, list-walked (s .args .v) w (s .args .r .now) _ _ _ _ _ _ _ (l .inv .3) _ (s .pre .2 .tiles) small (c .before .before .if2 .left) (c .before .may-end .ensures) (not-false _ (c .if5 .left)))
+
 add-i : tie.Need-add-i Inv-loop μ-loop Inv-lists μ-lists
 add-i c = search needs
 
 lists-less : tie.Need-lists-less Inv-loop μ-loop Inv-lists μ-lists
-lists-less c = omega (arith, c .before .before .before .before .before .before .before .before .before .before .skip .ensures .low, c .before .before .before .before .loop .inv .2)
+lists-less c = omega (arith, c .before .before .before .before .before .before .before .before .before .before .before .before .skip .ensures .low, c .before .before .before .before .before .before .loop .inv .2)
 
 lists-again : tie.Need-lists-again Inv-loop μ-loop Inv-lists μ-lists
 lists-again c =
-    let s = c .before .before .before .before .before .before .before .before .before .before .before .before .before .before .before .before in
-    let l = c .before .before .before .before .loop in
+    let s = c .before .before .before .before .before .before .before .before .before .before .before .before .before .before .before .before .before .before in
+    let l = c .before .before .before .before .before .before .loop in
     let w = arenaWords (s .args .a .now) in
-    let o = c .before .before .before .before .before .before .before .before .before .before .before .lists in
-    (l .inv .0 ∙ o .inv .0, l .inv .1, omega (arith, l .inv .2), list-leave (s .args .v) w (s .args .r .now) _ _ _ _ _ _ _ (l .inv .3) _ (c .before .before .if2 .left) (c .before .may-end .ensures) (not-false _ (c .if5 .left)))
+    let o = c .before .before .before .before .before .before .before .before .before .before .before .before .before .lists in
+    (l .inv .0 ∙ o .inv .0, l .inv .1, omega (arith, l .inv .2), list-leave (s .args .v) w (s .args .r .now) _ _ _ _ _ _ _ (l .inv .3) _ _ (c .before .before .before .before .if2 .left) (c .before .before .before .may-end .ensures) (not-false _ (c .before .before .if5 .left)) (c .before .skips-ok .ensures) (not-false _ (c .if6 .left)))
 
 same-length : tie.Need-same-length Inv-loop μ-loop Inv-lists μ-lists
 same-length c = c .before .before .lists .inv .0
@@ -183,6 +191,16 @@ returns-4 c =
     let w = arenaWords (s .args .a .now) in
     list-end-bad (s .args .v) w (s .args .r .now) _ _ _ _ _ _ _ (l .inv .3) _ _ (c .before .before .if2 .left) (c .before .may-end .ensures) (not-true _ (c .if5 .taken))
 
+same-length-5 : tie.Need-same-length-5 Inv-loop μ-loop Inv-lists μ-lists
+same-length-5 c = c .before .before .before .before .before .before .loop .inv .0 ∙ c .before .before .before .before .before .before .before .before .before .before .before .before .before .lists .inv .0
+
+returns-5 : tie.Need-returns-5 Inv-loop μ-loop Inv-lists μ-lists
+returns-5 c =
+    let s = c .before .before .before .before .before .before .before .before .before .before .before .before .before .before .before .before .before .before in
+    let l = c .before .before .before .before .before .before .loop in
+    let w = arenaWords (s .args .a .now) in
+    list-unlinked (s .args .v) w (s .args .r .now) _ _ _ _ _ _ _ (l .inv .3) _ _ _ (c .before .before .before .before .if2 .left) (c .before .before .before .may-end .ensures) (not-false _ (c .before .before .if5 .left)) (c .before .skips-ok .ensures) (not-true _ (c .if6 .taken))
+
 pub list-fault-spec : {M : Type 1} → statement M
 list-fault-spec =
     tie.close
@@ -208,6 +226,7 @@ list-fault-spec =
     loop-less
     loop-again
     may-end-requires
+    skips-ok-requires
     add-i
     lists-less
     lists-again
@@ -218,4 +237,6 @@ list-fault-spec =
     same-length-3
     returns-3
     same-length-4
-    returns-4)
+    returns-4
+    same-length-5
+    returns-5)

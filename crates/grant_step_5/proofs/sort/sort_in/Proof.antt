@@ -1,5 +1,6 @@
 -- `grant_step_5::sort_in` meets its contract: first in a small bin, and between its neighbours in a large one (`sort-small-gave`, `sort-large-gave`). Assumes nothing.
 use native.Mathlib.Omega.{arith}
+use Rattle.sizes.specs.BinLaws.{binOf-narrow}
 use Rattle.grant_step_5.specs.Newcomer.{own-low, sort-small-gave, sort-large-gave}
 use borrow.Author.Needs.{needs}
 use Rattle.grant_step_5.proofs.sort.sort_in.Statement.{statement}
@@ -12,7 +13,7 @@ put-first-requires : tie.Need-put-first-requires
 put-first-requires c κs =
     let p = c .before .before .before .before .before .before .pre in
     let j = c .before .before .before .bin-of .ensures in
-    (omega (arith, j .0, own-low _ _ _ _ _ (p .ok) (p .holds .0) (p .holds .1)), j .1, record { heap = p .heap; ok = p .ok; holds = p .holds .0 })
+    (omega (arith, j .0, own-low _ _ _ _ _ (p .ok) (p .holds .0) (p .holds .1)), omega (arith, j .0, binOf-narrow _ (c .before .before .if1 .taken)), record { heap = p .heap; ok = p .ok; holds = p .holds .0 })
 
 same-length : tie.Need-same-length
 same-length c = search needs
@@ -35,7 +36,7 @@ link-in-requires c κs =
     let j = c .before .before .before .before .before .before .before .before .bin-of .ensures in (
       omega (arith, j .0, own-low _ _ _ _ _ (p .ok) (p .holds .0) (p .holds .1)),
       j .1,
-      record { heap = p .heap; ok = p .ok; holds = (p .holds .0, record { xs = _; ys = _; gap = c .before .before .before .before .place .ensures (p .heap) (p .ok) }) },
+      record { heap = p .heap; ok = p .ok; holds = (p .holds .0, record { xs = _; ys = _; gap = c .before .before .before .before .place .ensures (p .heap) (p .ok) }, λ z. omega (arith, p .holds .1, c .before .before .before .before .before .before .before .if1 .left)) },
     )
 
 same-length-3 : tie.Need-same-length-3

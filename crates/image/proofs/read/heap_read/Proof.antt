@@ -1,4 +1,4 @@
--- `heap_read` meets its contract: as it is by the newest rules or unsound, else with its keys. Assumes nothing.
+-- `heap_read` meets its contract: as it is by the newest rules or unsound, else with what it lacks. Assumes nothing.
 use mathlib.Core.Path.{_≡_, refl, sym, _∙_}
 use mathlib.Core.Bool.{true}
 use mathlib.Core.Logic.{inl, inr}
@@ -7,7 +7,7 @@ use lib.ListN.{length}
 use borrow.Author.Needs.{needs}
 use borrow.Author.Tests.{not-true, not-false}
 use Rattle.calls.specs.Ways.{allowed-true, shape-long, shape-allowed}
-use Rattle.image.specs.Older.{read-as-it-is, read-lacking, read-keyed}
+use Rattle.image.specs.Older.{read-as-it-is, read-old, read-completed}
 use Rattle.image.proofs.read.heap_read.Statement.{statement}
 use Rattle.image.proofs.read.heap_read.Tie as tie
 
@@ -41,13 +41,13 @@ same-length-2 c = search needs
 returns-2 : tie.Need-returns-2
 returns-2 c = read-as-it-is _ _ _ _ _ (c .before .before .before .before .before .before .before .read-words .ensures) (c .before .before .before .audit-by .ensures) (inr (sym (c .before .is-sound .ensures) ∙ not-true _ (c .if2 .taken)))
 
-slice-aggregate-write-keys : tie.Need-slice-aggregate-write-keys
-slice-aggregate-write-keys c = search needs
+slice-aggregate-complete : tie.Need-slice-aggregate-complete
+slice-aggregate-complete c = search needs
 
-write-keys-requires : tie.Need-write-keys-requires
-write-keys-requires c κs =
+complete-requires : tie.Need-complete-requires
+complete-requires c κs =
     let s = c .before .before .before .before .before .before .before .before .before .before .before .before .before in
-    read-lacking _ _ _ _ _ (c .before .before .before .before .before .before .before .before .before .read-words .ensures) (c .before .before .before .before .before .audit-by .ensures) (s .pre .0) (λ i. omega (arith, c .before .before .before .before .before .before .before .before .before .before .before .shared-slice-known .given i)) (s .pre .1) (c .before .before .before .before .if1 .left) (sym (c .before .before .before .is-sound .ensures) ∙ not-false _ (c .before .before .if2 .left))
+    read-old _ _ _ _ _ (c .before .before .before .before .before .before .before .before .before .read-words .ensures) (c .before .before .before .before .before .audit-by .ensures) (s .pre .0) (λ i. omega (arith, c .before .before .before .before .before .before .before .before .before .before .before .shared-slice-known .given i)) (s .pre .1) (c .before .before .before .before .if1 .left) (sym (c .before .before .before .is-sound .ensures) ∙ not-false _ (c .before .before .if2 .left))
 
 same-length-3 : tie.Need-same-length-3
 same-length-3 c = search needs
@@ -56,8 +56,8 @@ returns-3 : tie.Need-returns-3
 returns-3 c =
     let s = c .before .before .before .before .before .before .before .before .before .before .before .before .before .before .before .before in
     let l = allowed-true (length (s .args .arena .now)) (shape-allowed (s .args .arena .now) (s .args .control .now) (s .pre .0)) in
-    read-keyed _ _ _ _ _ (c .before .before .before .before .before .before .before .before .before .before .before .before .read-words .ensures) (c .before .before .before .before .before .before .before .before .audit-by .ensures) (s .pre .0) (λ i. omega (arith, c .before .before .before .before .before .before .before .before .before .before .before .before .before .before .shared-slice-known .given i)) (s .pre .1) (c .before .before .before .before .before .before .before .if1 .left) (sym (c .before .before .before .before .before .before .is-sound .ensures) ∙ not-false _ (c .before .before .before .before .before .if2 .left)) _
-    (record { even = omega (arith, c .before .before .write-keys .kept .0, l .0); small = λ i. omega (arith, c .slice-known2 .given i) }) (c .before .before .write-keys .ensures)
+    read-completed _ _ _ _ _ (c .before .before .before .before .before .before .before .before .before .before .before .before .read-words .ensures) (c .before .before .before .before .before .before .before .before .audit-by .ensures) (s .pre .0) (λ i. omega (arith, c .before .before .before .before .before .before .before .before .before .before .before .before .before .before .shared-slice-known .given i)) (s .pre .1) (c .before .before .before .before .before .before .before .if1 .left) (sym (c .before .before .before .before .before .before .is-sound .ensures) ∙ not-false _ (c .before .before .before .before .before .if2 .left)) _
+    (record { even = omega (arith, c .before .before .complete .kept .0, l .0); small = λ i. omega (arith, c .slice-known2 .given i) }) (c .before .before .complete .ensures)
 
 pub heap-read-spec : {M : Type 1} → statement M
 heap-read-spec =
@@ -72,7 +72,7 @@ heap-read-spec =
     is-sound-requires
     same-length-2
     returns-2
-    slice-aggregate-write-keys
-    write-keys-requires
+    slice-aggregate-complete
+    complete-requires
     same-length-3
     returns-3)

@@ -4,7 +4,7 @@ use Prim.Native.Nat.{_+_, _-_}
 use native.Mathlib.Omega.{arith}
 use lib.ListN.{length, length-take}
 use borrow.Author.Needs.{needs}
-use Rattle.image.specs.Ways.{completed, zeros-taken}
+use Rattle.image.specs.Ways.{record-completed, zeros-taken}
 use Rattle.image.proofs.read.put_record.Statement.{statement}
 use Rattle.image.proofs.read.put_record.Tie as tie
 
@@ -30,7 +30,7 @@ returns : tie.Need-returns
 returns c =
     let s = c .before .before .before .before .before .before .before .before .before .before .before in
     let a = c .before .before .before .before .before .before .before .put-bytes .ensures in
-    completed (s .args .part .now) _ _ _ _ _ (same-length c ∙ s .pre .0) (s .pre .2) (a .0 ∙ omega arith) (c .before .before .put-bytes2 .ensures .0)
+    record-completed (s .args .part .now) _ _ _ _ _ (same-length c ∙ s .pre .0) (s .pre .2) (a .0 ∙ omega arith) (c .before .before .put-bytes2 .ensures .0)
     (zeros-taken (1580 - length (s .args .part .now)) 8 (omega arith)) (a .1) (c .before .before .put-bytes2 .ensures .1)
 
 pub put-record-spec : {M : Type 1} → statement M

@@ -1,0 +1,66 @@
+-- An older heap that is sound by the rules of its version, with what it lacks: it is sound by the newest. Its words after the keys are those of a heap of
+-- version 2, whose skip links may be written. Assumes nothing.
+use mathlib.Core.Path.{_≡_, sym, ap, _∙_, subst}
+use mathlib.Core.List.{List, []}
+use mathlib.Core.Logic.{⊎-elim}
+use Prim.Native.Nat.{ℕ, _≤_, _<_}
+use native.Mathlib.Omega.{arith}
+use borrow.Author.Tests.{lt-ltb, le-ltb}
+use Rattle.sizes.specs.Limits.{newest}
+use Rattle.machine.specs.Heap.{Heap}
+use Rattle.machine.specs.Writes.{Write, apply}
+use Rattle.sound.specs.Relation.{SoundBy, Sound}
+use Rattle.sound.specs.Tiles.{lt-or-le}
+use Rattle.sound.specs.Frames.{apply-append}
+use Rattle.image_keys.specs.Keys.{keysOf, Lacking}
+use Rattle.image_keys.specs.KeysLaws.{keyed-sound}
+use Rattle.image_skips.specs.Skips.{skipsOf}
+use Rattle.image_skips.specs.SkipsLaws.{skipped-sound}
+use Rattle.image.specs.Image.{lackedKeys, lacked}
+
+-- a `requires`: words w and record r are those of some heap that is sound by the rules of v, an older version
+pub record Old (v : ℕ) (w r : List ℕ) : Type 0 where
+  pub first : 1 ≤ v
+  pub older : v < newest
+  pub heap : Heap
+  pub sound : SoundBy v heap w r
+
+-- ---- the keys, which version 1 alone lacks
+keys-1 : (v : ℕ) (h : Heap) → v < 2 → lackedKeys v h ≡ keysOf h
+keys-1 v h l = rw (lt-ltb v 2 l, lackedKeys)
+
+keys-2 : (v : ℕ) (h : Heap) → 2 ≤ v → lackedKeys v h ≡ []
+keys-2 v h l = rw (le-ltb v 2 l, lackedKeys)
+
+pub no-keys-written : (v : ℕ) (h : Heap) (w : List ℕ) → 2 ≤ v → w ≡ apply (lackedKeys v h) w
+no-keys-written v h w l = ap (λ (ws : List Write). apply ws w) (sym (keys-2 v h l))
+
+module _ {v : ℕ} {w r : List ℕ} where
+  by-1 : (h : Heap) → 1 ≤ v → v < 2 → SoundBy v h w r → SoundBy 1 h w r
+  by-1 h f l s = let e : v ≡ 1 = omega arith in subst (λ (v : ℕ). SoundBy v h w r) e s
+
+  pub old-lacking : Old v w r → v < 2 → Lacking w r
+  old-lacking O l = record { heap = O .heap; sound = by-1 (O .heap) (O .first) l (O .sound) }
+
+  pub keys-written : (h : Heap) (u : List ℕ) → 1 ≤ v → v < 2 → SoundBy v h w r → ((h : Heap) → SoundBy 1 h w r → u ≡ apply (keysOf h) w) → u ≡ apply (lackedKeys v h) w
+  keys-written h u f l s k = k h (by-1 h f l s) ∙ ap (λ (ws : List Write). apply ws w) (sym (keys-1 v h l))
+
+  -- ---- with them it is sound by the rules of version 2
+  with-keys : (h : Heap) → 1 ≤ v → v < newest → SoundBy v h w r → SoundBy 2 h (apply (lackedKeys v h) w) r
+  with-keys h f o s = ⊎-elim
+      (λ l. subst (λ (ws : List Write). SoundBy 2 h (apply ws w) r) (sym (keys-1 v h l)) (keyed-sound h w r (by-1 h f l s)))
+      (λ l. let e : v ≡ 2 = omega arith in
+      subst (λ (ws : List Write). SoundBy 2 h (apply ws w) r) (sym (keys-2 v h l)) (subst (λ (v : ℕ). SoundBy v h w r) e s))
+      (lt-or-le v 2)
+
+  -- u: the words after the keys; t: those after the skip links
+  pub old-keyed : (h : Heap) {u : List ℕ} → 1 ≤ v → v < newest → SoundBy v h w r → ((h : Heap) → SoundBy v h w r → u ≡ apply (lackedKeys v h) w) → SoundBy 2 h u r
+  old-keyed h f o s k = subst (λ (u : List ℕ). SoundBy 2 h u r) (sym (k h s)) (with-keys h f o s)
+
+  pub both-written : (h : Heap) {u t : List ℕ} → SoundBy v h w r → ((h : Heap) → SoundBy v h w r → u ≡ apply (lackedKeys v h) w) → t ≡ apply (skipsOf h) u → t ≡ apply (lacked v h) w
+  both-written h s k e = e ∙ ap (apply (skipsOf h)) (k h s) ∙ sym (apply-append (lackedKeys v h) (skipsOf h) w)
+
+-- ---- with both it is sound by the newest
+pub lacked-sound : (v : ℕ) (h : Heap) (w r : List ℕ) → 1 ≤ v → v < newest → SoundBy v h w r → Sound h (apply (lacked v h) w) r
+lacked-sound v h w r f o s =
+    subst (λ (u : List ℕ). Sound h u r) (sym (apply-append (lackedKeys v h) (skipsOf h) w)) (skipped-sound h (apply (lackedKeys v h) w) r (with-keys h f o s))

@@ -1,0 +1,4 @@
+pub mod Walk
+pub mod Members
+pub mod WalkTurn
+pub mod RingTurn
