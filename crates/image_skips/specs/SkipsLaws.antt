@@ -7,18 +7,17 @@ use mathlib.Core.Logic.{⊎-elim}
 use Prim.Native.Nat.{ℕ, zero, suc, _+_, _*_, _/_, _≤_, _<_}
 use native.Mathlib.Omega.{arith}
 use lib.ListN.{length, getD, List·getD-eq-default}
-use lib.Seq.{getD-set-same, getD-set-other}
-use Rattle.sizes.specs.Limits.{none64, large, unsorted, firstLarge}
+use Rattle.sizes.specs.Limits.{large, unsorted, firstLarge}
 use Rattle.machine.specs.Lists.{cnt}
 use Rattle.machine.specs.Count.{eq?, ind-same, ind-other, cnt-here, cnt-there, cnt-le-all, cnt-two}
 use Rattle.machine.specs.Heap.{Heap, bin, starts, sizeOf}
-use Rattle.machine.specs.Writes.{Write, skipFwd, put, apply}
+use Rattle.machine.specs.Writes.{Write, apply}
 use Rattle.machine.specs.Skips.{ring, putSkips, allPut, skips}
 use Rattle.sound.specs.Relation.{stand, Shape, SoundBy, Sound}
 use Rattle.sound.specs.Tiles.{lt-or-le, starts-once}
 use Rattle.sound.specs.Apart.{tiled-tiles}
-use Rattle.sound.specs.Frames.{Sub, put-length, apply-length, apply-append, Skips}
-use Rattle.sound.specs.Rings.{put-case, kind-case, SkipW, skip-append, skip-more, ring-w, put-w, allPut-w, stand-cong, stand-append, chunk-inside, skip-out, ring-stands, skip-links-mem, skips-mem}
+use Rattle.sound.specs.Frames.{Sub, apply-length, apply-append, Skips}
+use Rattle.sound.specs.Rings.{kind-case, SkipW, skip-append, skip-more, ring-w, put-w, allPut-w, stand-cong, stand-append, skip-out, ring-stands, put-stands, skip-links-mem, skips-mem}
 use Rattle.image_skips.specs.Skips.{ringsFrom, skipsOf}
 
 module _ (h : Heap) (s : Shape h) where
@@ -50,15 +49,6 @@ module _ (h : Heap) (s : Shape h) where
   rings-w (suc n) j l = skip-append sz (starts h) (ring sz (bin h j)) (ringsFrom n (suc j) h) (ring-in j l) (rings-w n (suc j) (omega arith))
 
   -- ---- unsorted: each large chunk has all ones then
-  put-stands : (c : ℕ) (w : List ℕ) → 8 * length w ≡ h .len → 1 ≤ cnt c (starts h) → stand (putSkips sz c) (apply (putSkips sz c) w)
-  put-stands c w n m = put-case (λ ws. stand ws (apply ws w)) sz c tt
-      (λ e.
-      let i = chunk-inside h s c m in
-      let v : List ℕ = put (skipFwd c none64) w in (
-        getD-set-other v (c / 8 + 5) (c / 8 + 4) none64 0 (λ z. omega (arith, z)) ∙ getD-set-same w (c / 8 + 4) none64 0 (omega (arith, i .1, e, n)),
-        (getD-set-same v (c / 8 + 5) none64 0 (omega (arith, i .1, e, n, put-length (skipFwd c none64) w)), tt),
-      ))
-
   puts-stand : (l w : List ℕ) → 8 * length w ≡ h .len → Sub l (starts h) → ((x : ℕ) → cnt x l ≤ 1) → stand (allPut sz l) (apply (allPut sz l) w)
   puts-stand [] w n sub o = tt
   puts-stand (c ∷ l) w n sub o =
@@ -72,7 +62,7 @@ module _ (h : Heap) (s : Shape h) where
       (λ q. skip-out h s l (allPut sz l) v x i (allPut-w sz l) sl (rw q mc) lx hi (rw q (omega (arith, o c, ind-same c))))
       (λ q. absurd (omega (arith, m, ind-other x c q)))
       (eq? x c))
-      (put-stands c w n mc))
+      (put-stands h s c w n mc))
       (puts-stand l v (ap (λ (i : ℕ). 8 * i) (apply-length (putSkips sz c) w) ∙ n) sl (λ x. omega (arith, o x))))
 
   -- ---- the rings: those of bins from j on are no words of a chunk that none of them has

@@ -19,15 +19,12 @@ use Rattle.machine.specs.Count.{eq?}
 use Rattle.machine.specs.Writes.{Write, who, field, value, skipFwd, skipBack, put, apply, stand?}
 use Rattle.machine.specs.Skips.{noSkips, ringFrom, ring, putSkips, allPut}
 use Rattle.machine.specs.View.{sizeAt}
+use Rattle.sound.specs.Frames.{apply-append}
 use Rattle.skip_links.specs.Walk.{Walk, LargeWalk}
 use Rattle.skip_links.specs.Members.{linkedBy, groupOf, member}
 use Rattle.skip_links.specs.WalkTurn.{Rest, rest-start, rest-end, rest-more, rest-in, rest-next}
 
--- ---- writes, and words that stand, in parts
-apply-append : (a b : List Write) (w : List ℕ) → apply (a ++ b) w ≡ apply b (apply a w)
-apply-append [] b w = refl
-apply-append (e ∷ a) b w = apply-append a b (put e w)
-
+-- ---- words that stand, in parts
 both-assoc : (x y z : Bool) → both x (both y z) ≡ both (both x y) z
 both-assoc true y z = refl
 both-assoc false y z = refl

@@ -327,7 +327,7 @@ module _ (h : Heap) (s : Shape h) where
           let z : cnt c l ≡ 0 = omega (arith, o c, ind-same c) in
           ring-once (λ x. sizeOf h x) c c l z z (λ x. omega (arith, o x))
 
-  put-stands : (c : ℕ) (w : List ℕ) → 8 * length w ≡ h .len → 1 ≤ cnt c (starts h)
+  pub put-stands : (c : ℕ) (w : List ℕ) → 8 * length w ≡ h .len → 1 ≤ cnt c (starts h)
       → stand (putSkips (λ x. sizeOf h x) c) (apply (putSkips (λ x. sizeOf h x) c) w)
   put-stands c w n m = put-case (λ ws. stand ws (apply ws w)) (λ x. sizeOf h x) c tt
       (λ e. stand-apply (c ∷ []) (noSkips c) w n (omega arith, cnt-here c [], e, (λ v w. refl), (omega arith, cnt-here c [], e, (λ v w. refl), tt))
