@@ -83,7 +83,8 @@ int main(void)
 {
     struct curve c = { HEAP_NULL, 0, 0, 0 };
 
-    heap_open(arena, sizeof arena, record, sizeof record, KEY);
+    heap_open(arena, sizeof arena, record, sizeof record, KEY,
+              HEAP_LINKS_PLAIN);
     curve_room(&c, STEP); /* of null: a grant */
     struct heap_answer table =
         heap_grant(arena, sizeof arena, record, sizeof record, sizeof probe);

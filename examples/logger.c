@@ -23,6 +23,12 @@
  */
 #define KEY 0xb7d1f4936ac8e52du
 
+/*
+ * Edition 2, as for all new firmware: the links of released blocks are stored
+ * mixed from 4,096 on. This arena ends there; a longer one would have such.
+ */
+#define EDITION HEAP_LINKS_MIXED
+
 static _Alignas(16) uint8_t arena[ARENA_BYTES];
 static uint8_t record[HEAP_RECORD_BYTES];
 
@@ -236,7 +242,7 @@ int main(void)
     uint32_t curve[CURVES];
 
     struct heap_answer a =
-        heap_open(arena, sizeof arena, record, sizeof record, KEY);
+        heap_open(arena, sizeof arena, record, sizeof record, KEY, EDITION);
     printf("open of %u bytes: %u (%s)\n", (unsigned)sizeof arena,
            (unsigned)a.no, refusal[a.no]);
     uint32_t table = probe_table();
@@ -260,7 +266,7 @@ int main(void)
     memset(at(table, 0) - 8, 0xff, 8);
     print_audit();
     print_release(table);
-    a = heap_open(arena, sizeof arena, record, sizeof record, KEY);
+    a = heap_open(arena, sizeof arena, record, sizeof record, KEY, EDITION);
     printf("open again: %u (%s)\n", (unsigned)a.no, refusal[a.no]);
     print_audit();
     return 0;

@@ -9,14 +9,16 @@
  *     static _Alignas(16) uint8_t arena[49152];
  *     static uint8_t record[HEAP_RECORD_BYTES];
  *
- *     heap_open(arena, sizeof arena, record, sizeof record, KEY);
+ *     heap_open(arena, sizeof arena, record, sizeof record, KEY,
+ *               HEAP_LINKS_MIXED);
  *     struct heap_answer a =
  *         heap_grant(arena, sizeof arena, record, sizeof record, 600);
  *     if (a.no == HEAP_DONE)
  *         memset(arena + a.mem, 0, a.usable);
  *     heap_release(arena, sizeof arena, record, sizeof record, a.mem);
  *
- * KEY is a number of the firmware's own; THE KEY, below, says which to take.
+ * KEY is a number of the firmware's own; THE KEY, below, says which to take,
+ * and THE EDITION what stands behind it.
  *
  *
  * MEM
@@ -61,7 +63,7 @@
  *
  *   no  given by                when
  *    1  every call              arena_len is not a multiple of 16 from 32 to
- *                               262,144, or record_len is not 1,580; no byte
+ *                               262,144, or record_len is not 1,584; no byte
  *                               of the buffers is looked at
  *    2  grant, resize           n is above 262,144
  *    3  grant, release, resize, the heap is not sound: heap_audit says where
@@ -73,6 +75,7 @@
  *    6  read_image              the file has fewer than 5 bytes, or does not
  *                               begin with the mark HPI
  *    7  read_image              the file is of a version that is not known
+ *   12  open                    edition is neither 1 nor 2
  *
  * heap_read_image tests 6 and 7 before 1, and heap_write_image and
  * heap_read_image answer 1 for the file too: its buffer, or the length that
@@ -80,9 +83,10 @@
  *
  *   call             no      arena after it            record after it
  *   open             0       bytes 8 to 15 written     written anew
- *   open             1       as it was                 if record_len is 1,580:
+ *   open             1       as it was                 if record_len is 1,584:
  *                                                      closed (below);
  *                                                      else as it was
+ *   open             12      as it was                 closed (below)
  *   grant            0       changed (below)           changed
  *   grant            1 to 3  as it was                 as it was
  *   grant            5       changed (below)           changed
@@ -99,8 +103,8 @@
  *   audit            any     as it was                 as it was
  *   write_image      any     as it was                 as it was
  *   read_image       0       the file's; of version 1  the file's; of version
- *                            or 2 also skip links, of  1 with the key 0
- *                            1 also keys (below)
+ *                            or 2 also skip links, of  1 to 3 with edition 1,
+ *                            1 also keys (below)       of 1 with the key 0
  *   read_image       6, 7, 1 as it was                 as it was
  *
  * The file that heap_read_image reads is as it was; that of heap_write_image is
@@ -119,21 +123,22 @@
  * that was to be resized is live at its mem, with its usable bytes. The same
  * resize made again may succeed, by what was joined behind the block.
  *
- * A closed record says: length 0, every count 0, the key 0, every other word
- * all ones. On an arena of an allowed length every later grant, release,
- * resize, emptying and joining then answers 3, but for a grant or a resize of
- * more than 262,144 bytes, which answers 2, as on every heap; audit names the
- * record.
+ * A closed record says: length 0, every count 0, the key 0, the edition 0,
+ * every other word all ones. On an arena of an allowed length every later
+ * grant, release, resize, emptying and joining then answers 3, but for a grant
+ * or a resize of more than 262,144 bytes, which answers 2, as on every heap;
+ * audit names the record.
  *
  *
  * THE RECORD
  *
- * 1,580 bytes, all numbers little-endian: 393 words of 32 bits, which are arena
+ * 1,584 bytes, all numbers little-endian: 393 words of 32 bits, which are arena
  * length, top, last remainder, 64 cache heads, 64 cache counts, 10 fast heads,
- * then first and last chunk of bins 1 to 126, all ones meaning none; and the
- * key, a number of 64 bits, in bytes 1,572 to 1,579. Together with the arena's
- * bytes they are the heap: both may be stored, and moved to any other address,
- * and used there. A copy of one without the other is of no use.
+ * then first and last chunk of bins 1 to 126, all ones meaning none; the key, a
+ * number of 64 bits, in bytes 1,572 to 1,579; and the edition, a number of 32
+ * bits, in bytes 1,580 to 1,583. Together with the arena's bytes they are the
+ * heap: both may be stored, and moved to any other address, and used there. A
+ * copy of one without the other is of no use.
  *
  *
  * THE KEY
@@ -155,6 +160,26 @@
  * is read in.
  *
  *
+ * THE EDITION
+ *
+ * A released block that is kept in the cache or on a fast list has a link to
+ * the next one of its list in its first word, bytes 0 to 7 from its mem on; the
+ * last one has all ones there. Edition 1 (HEAP_LINKS_PLAIN) stores these links
+ * as they are. Edition 2 (HEAP_LINKS_MIXED) stores each exclusive-or mem /
+ * 4,096, the link's own position divided, all ones as well, as glibc does since
+ * 2.32: what a holder writes there after its release, an offset or all ones
+ * too, is then unlikely to be taken for a link. Below mem 4,096 the two store
+ * the same. Heads in the record, the links of bins and skip links are never
+ * mixed.
+ *
+ * No answer depends on the edition, no list, and no byte that a holder has
+ * written; only what was never written may differ, as a block's first contents
+ * do. It stands in the record, and a heap keeps it until it is opened again, or
+ * another is read in; another number there than 1 and 2 is a fault of the
+ * record. For new firmware take 2; 1 is for those who look at the arena and
+ * expect links as they were before.
+ *
+ *
  * SKIP LINKS
  *
  * A free chunk of 1,024 bytes or more that is in a bin has two more links, for
@@ -171,24 +196,27 @@
  *
  * THE IMAGE
  *
- * A heap in a file: the mark HPI (bytes 0 to 2), the version 3 (3 and 4), the
- * arena's length (5 to 8), the record (1,580 bytes from 9 on), the arena (from
- * 1,589 on), and nothing behind it. Numbers are little-endian. A heap that is
+ * A heap in a file: the mark HPI (bytes 0 to 2), the version 4 (3 and 4), the
+ * arena's length (5 to 8), the record (1,584 bytes from 9 on), the arena (from
+ * 1,593 on), and nothing behind it. Numbers are little-endian. A heap that is
  * not sound is written like any other, and read back byte for byte with the
  * same audit: so a stuck logger's heap can be sent home and looked at there
  * (./heapimage). A heap that is read in and sound answers every later call as
  * the one that was written.
  *
- * Older images are read as well. One of version 2, from before there were skip
- * links, has the same parts. In one of version 1, from before there was a key,
- * the record has 1,572 bytes, and the arena stands at 1,581; the buffer for the
- * record has 1,580 bytes all the same, and the key is then 0. The answer is
+ * Older images are read as well. In one of version 3, from before there were
+ * editions, or 2, from before there were skip links, the record has 1,580
+ * bytes, and the arena stands at 1,589; in one of version 1, from before there
+ * was a key, the record has 1,572 bytes, and the arena stands at 1,581. The
+ * buffer for the record has 1,584 bytes all the same; the edition is then 1,
+ * and of version 1 the key 0, whether the heap is sound or not. The answer is
  * that of an audit by the rules of the image's version: version 1 asks for
- * neither keys nor skip links, version 2 for keys alone. If that says sound,
- * what the heap lacks is written, so that later calls find it sound too: of
- * both versions the skip links, and of version 1 the key, 0, in the second word
- * of every cached chunk. One that is not sound is copied and nothing more; the
- * next call may then find wrong keys and skip links as well.
+ * neither keys nor skip links, version 2 for keys alone, none of them for an
+ * edition. If that says sound, what the heap lacks is written, so that later
+ * calls find it sound too: of versions 1 and 2 the skip links, and of version 1
+ * the key, 0, in the second word of every cached chunk. The arena of one that
+ * is not sound is copied and nothing more; the next call may then find wrong
+ * keys and skip links as well.
  *
  *
  * SOUND AND NOT SOUND
@@ -211,10 +239,10 @@
  * or more, the top included, also joins the chunks of the fast lists, as some
  * grants and every joining do; so does a resize, or an emptying, with what it
  * releases. Give a call of grant, release, resize, emptying, joining, audit or
- * read_image HEAP_STACK_BYTES of stack. The most that was measured is 23,729,
- * by a resize, and 22,049 by any other, over 600 random heaps and three where
+ * read_image HEAP_STACK_BYTES of stack. The most that was measured is 23,717,
+ * by a resize, and 22,037 by any other, over 600 random heaps and three where
  * a release, a resize and an emptying join the fast lists, of which 20,000 are
- * marks, one for each 16 bytes of an arena in four sizes of array, and 1,580
+ * marks, one for each 16 bytes of an arena in four sizes of array, and 1,584
  * the record's words, which a resize that is a grant or a release has twice.
  * heap_open and heap_write_image need no marks; the most measured is 648. An
  * image is written or read in time in proportion to the arena's length. No call
@@ -233,11 +261,12 @@ extern "C" {
 #endif
 
 /* The record's size in bytes; no other is accepted. */
-#define HEAP_RECORD_BYTES 1580
+#define HEAP_RECORD_BYTES 1584
 
 /*
  * The size in bytes of the image, as it is written, of a heap whose arena has
- * arena_len bytes. One of version 1 has 8 bytes less.
+ * arena_len bytes. One of version 2 or 3 has 4 bytes less, one of version 1 has
+ * 12 bytes less.
  */
 #define HEAP_IMAGE_BYTES(arena_len) (9 + HEAP_RECORD_BYTES + (arena_len))
 
@@ -252,6 +281,10 @@ extern "C" {
 /* The largest n that is not refused with 2. */
 #define HEAP_REQUEST_MAX 262144
 
+/* The editions, for heap_open; THE EDITION, above, says which to take. */
+#define HEAP_LINKS_PLAIN 1
+#define HEAP_LINKS_MIXED 2
+
 /* The mem that names no block. */
 #define HEAP_NULL 0
 
@@ -264,7 +297,8 @@ enum heap_no {
     HEAP_NOT_LIVE = 4,
     HEAP_NO_ROOM = 5,
     HEAP_NO_IMAGE = 6,
-    HEAP_NO_VERSION = 7
+    HEAP_NO_VERSION = 7,
+    HEAP_NO_EDITION = 12
 };
 
 struct heap_answer {
@@ -276,7 +310,8 @@ struct heap_answer {
 /* The numbers in heap_fault.kind, and what heap_fault.number then is. */
 enum heap_kind {
     HEAP_SOUND = 0,        /* 0 */
-    HEAP_FAULT_RECORD = 1, /* 0: the record's length is not the arena's */
+    HEAP_FAULT_RECORD = 1, /* 0: the record's length is not the arena's, or
+                              its edition neither 1 nor 2 */
     HEAP_FAULT_TILE = 2,   /* offset of a chunk with a wrong size word, or of
                               the last chunk if it is not the record's top */
     HEAP_FAULT_CACHE = 3,  /* the cache list, 0 to 63: also for a key that is
@@ -296,11 +331,12 @@ struct heap_fault {
 /*
  * Makes a heap without blocks of the two buffers, whatever they hold. On a
  * heap in use it forgets all blocks. The heap has the key from then on; any
- * number will do, and THE KEY, above, says which to take. Refused with 1.
+ * number will do, and THE KEY, above, says which to take. It is of that edition
+ * from then on, HEAP_LINKS_PLAIN or HEAP_LINKS_MIXED. Refused with 1 or 12.
  */
 struct heap_answer heap_open(uint8_t *arena, size_t arena_len,
                              uint8_t *record, size_t record_len,
-                             uint64_t key);
+                             uint64_t key, uint32_t edition);
 
 /*
  * Grants a block of at least n usable bytes; n may be 0. The block was not
@@ -365,7 +401,7 @@ struct heap_fault heap_audit(const uint8_t *arena, size_t arena_len,
                              const uint8_t *record, size_t record_len);
 
 /*
- * Writes the heap's image, of version 3, whether the heap is sound or not.
+ * Writes the heap's image, of version 4, whether the heap is sound or not.
  * Refused with 1, if arena or record has no allowed length, or file_len is not
  * HEAP_IMAGE_BYTES(arena_len); then nothing is written.
  */
@@ -374,7 +410,7 @@ struct heap_answer heap_write_image(const uint8_t *arena, size_t arena_len,
                                     uint8_t *file, size_t file_len);
 
 /*
- * Reads an image of version 3: arena and record are then those that were
+ * Reads an image of version 4: arena and record are then those that were
  * written, and the answer is what heap_audit says of them. Or an older one: THE
  * IMAGE, above, says what becomes of it. Refused with 6, 7 or 1, in that
  * order; then nothing is written. 1: file_len is under 9; the length in the

@@ -70,7 +70,8 @@ bool emptying_by_tiles(struct plain_view *view, const struct lent *before)
     for (unsigned k = 0; k < 64; k++) {
         uint32_t head = plain_word(before->record, plain_cache_head(k));
         uint64_t c = head == PLAIN_NONE32 ? PLAIN_NONE64 : head;
-        for (; c != PLAIN_NONE64; c = plain_get(before->arena + c + 16, 8))
+        for (; c != PLAIN_NONE64;
+             c = plain_link(before->arena, plain_edition(before->record), c))
             joined = release_tile(view, tile_at(view, c)) || joined;
     }
     return joined;

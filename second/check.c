@@ -7,6 +7,7 @@
 
 #include "plain.h"
 
+static const char *said_before = "";
 static const char *current;
 static uint64_t checks;
 static bool failed_now;
@@ -18,8 +19,8 @@ static void end_group(void)
     if (current == NULL)
         return;
     if (!failed_now)
-        printf("ok %s: %llu checks%s\n", current, (unsigned long long)checks,
-               remarks);
+        printf("ok %s%s: %llu checks%s\n", said_before, current,
+               (unsigned long long)checks, remarks);
     fflush(stdout);
     current = NULL;
 }
@@ -33,6 +34,12 @@ void group(const char *name)
     remarks[0] = '\0';
 }
 
+void groups_of(const char *what)
+{
+    end_group();
+    said_before = what;
+}
+
 bool check_good(void)
 {
     checks++;
@@ -44,7 +51,7 @@ bool check_bad(const char *file, int line, const char *format, ...)
     if (failed_now)
         return false;
     const char *slash = strrchr(file, '/');
-    printf("FAILED %s: %s:%d: after %llu checks: ", current,
+    printf("FAILED %s%s: %s:%d: after %llu checks: ", said_before, current,
            slash == NULL ? file : slash + 1, line, (unsigned long long)checks);
     va_list arguments;
     va_start(arguments, format);
@@ -122,14 +129,15 @@ bool same_record(const struct lent *a, const struct lent *b)
     return memcmp(a->record, b->record, PLAIN_RECORD_BYTES) == 0;
 }
 
-bool same_but_key(const struct lent *a, const struct lent *b)
+bool same_words(const struct lent *a, const struct lent *b)
 {
     return memcmp(a->record, b->record, 4 * PLAIN_WORDS) == 0;
 }
 
-struct second_answer lent_open(struct lent *l, uint64_t key)
+struct second_answer lent_open(struct lent *l, uint64_t key, uint32_t edition)
 {
-    return second_open(l->arena, l->length, l->record, l->record_len, key);
+    return second_open(l->arena, l->length, l->record, l->record_len, key,
+                       edition);
 }
 
 struct second_answer lent_grant(struct lent *l, uint64_t n)

@@ -15,6 +15,9 @@
 /* Ends the group before and starts one of this name. */
 void group(const char *name);
 
+/* Says so before the name of every group from here on. */
+void groups_of(const char *what);
+
 /* Counts a check of the current group; the first one that fails is told. */
 #define CHECK(good, ...) \
     ((good) ? check_good() : check_bad(__FILE__, __LINE__, __VA_ARGS__))
@@ -48,9 +51,10 @@ void copy_lent(struct lent *to, const struct lent *from);
 bool same_arena(const struct lent *a, const struct lent *b);
 bool same_record(const struct lent *a, const struct lent *b);
 
-bool same_but_key(const struct lent *a, const struct lent *b); /* records */
+/* The records, but for key and edition. */
+bool same_words(const struct lent *a, const struct lent *b);
 
-struct second_answer lent_open(struct lent *l, uint64_t key);
+struct second_answer lent_open(struct lent *l, uint64_t key, uint32_t edition);
 struct second_answer lent_grant(struct lent *l, uint64_t n);
 struct second_answer lent_release(struct lent *l, uint64_t mem);
 struct second_answer lent_resize(struct lent *l, uint64_t mem, uint64_t n);

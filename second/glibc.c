@@ -17,6 +17,12 @@
  * chunk granted out of the cache or whole out of a bin. An older glibc has no
  * key, and these words are left out.
  *
+ * glibc since 2.32 mixes the forward links of cached and fast chunks with their
+ * addresses, as edition 2 does with offsets. Each is unmixed by its own, and
+ * every link of every such list is then compared, and what a chunk granted out
+ * of the cache still holds of it. An older glibc stores them as they are. One
+ * sequence in four is of edition 1.
+ *
  * The address space is then closed, so that glibc refuses where the second
  * program refuses with 5, instead of asking the system for more.
  */
@@ -80,6 +86,8 @@ struct report {
     uint64_t resizes, moved, resizes_refused;
     uint64_t grown; /* sequences ended by a grown top */
     uint64_t keys, zeros, links; /* second words that agreed */
+    uint64_t cached, fast, ends, old_links; /* first words; those of blocks */
+    uint64_t mixed; /* of them, stored here otherwise than they are */
     uint64_t skips, no_skips, old_skips; /* skip links; those of blocks */
     uint64_t reached[SECOND_PLACE_COUNT];
     bool failed;
@@ -96,6 +104,7 @@ struct duel {
     uint32_t length;
     uint64_t key; /* glibc's */
     bool keyed;   /* it has one */
+    bool mixes;   /* it mixes links */
     struct pair pair[SLOTS];
     uint32_t pairs;
     uint32_t call;
@@ -188,17 +197,60 @@ static void same_chunk(struct duel *d, uint32_t c, uint32_t size)
                                             : &d->report->no_skips) += 2;
 }
 
-/* Every chunk cached here has the key here and there. */
-static void same_keys(struct duel *d)
+/* A chunk cached here has the key here and there. */
+static void same_key(struct duel *d, uint32_t c)
 {
-    for (unsigned k = 0; k < 64 && d->keyed && !d->over; k++) {
-        uint32_t c = plain_word(record, plain_cache_head(k));
-        for (; c != PLAIN_NONE32 && !d->over; d->report->keys++) {
-            if (plain_get(arena + c + 24, 8) != d->key
-                || their_field(d, c, 24) != d->key)
-                fail(d, "key", plain_get(arena + c + 24, 8),
-                     their_field(d, c, 24));
-            c = (uint32_t)plain_get(arena + c + 16, 8);
+    if (!d->keyed)
+        return;
+    if (plain_get(arena + c + 24, 8) != d->key
+        || their_field(d, c, 24) != d->key)
+        fail(d, "key", plain_get(arena + c + 24, 8), their_field(d, c, 24));
+    d->report->keys++;
+}
+
+/*
+ * The link of a cached or fast chunk, or what is left of it, unmixed by its
+ * address. One of the cache leads to a mem, one of a fast list to a chunk.
+ */
+static uint64_t their_stacked(struct duel *d, uint32_t c, bool cached)
+{
+    uint64_t link = their_field(d, c, 16);
+    if (d->mixes)
+        link ^= (d->base + c + 16) >> 12;
+    if (link == 0)
+        return PLAIN_NONE64;
+    uint64_t to = link - d->base - (cached ? 16 : 0);
+    if (to >= d->length)
+        fail(d, "link out of the arena", c, link);
+    return to;
+}
+
+/* The same here, unmixed by its offset; answers where it leads. */
+static uint64_t same_stacked(struct duel *d, uint32_t c, bool cached)
+{
+    uint64_t mine = plain_link(arena, plain_edition(record), c);
+    uint64_t theirs = their_stacked(d, c, cached);
+    if (mine != theirs)
+        fail(d, cached ? "cached link" : "fast link", mine, theirs);
+    d->report->mixed += mine != plain_get(arena + c + 16, 8);
+    return mine;
+}
+
+/* Every cached and every fast chunk leads to the same one here and there. */
+static void same_stacks(struct duel *d)
+{
+    for (unsigned i = 0; i < 74 && !d->over; i++) {
+        bool cached = i < 64;
+        uint32_t head = plain_word(record, cached ? plain_cache_head(i)
+                                                  : plain_fast_head(i - 64));
+        uint64_t c = head == PLAIN_NONE32 ? PLAIN_NONE64 : head;
+        while (c != PLAIN_NONE64 && !d->over) {
+            if (cached)
+                same_key(d, (uint32_t)c);
+            c = same_stacked(d, (uint32_t)c, cached);
+            *(c == PLAIN_NONE64 ? &d->report->ends
+              : cached          ? &d->report->cached
+                                : &d->report->fast) += 1;
         }
     }
 }
@@ -210,7 +262,7 @@ static void same_heap(struct duel *d)
         same_chunk(d, c, size);
         c += size;
     }
-    same_keys(d);
+    same_stacks(d);
 }
 
 /* ---- what a granted block holds where links were ---- */
@@ -244,6 +296,17 @@ static void same_second_word(struct duel *d, uint32_t c, uint32_t size)
     *(zero ? &d->report->zeros : &d->report->links) += 1;
     if (mine != theirs || (t->state == PLAIN_CACHED && !zero))
         fail(d, "second word of a granted block", mine, theirs);
+}
+
+/* A chunk taken from the cache keeps its link, as it was stored. */
+static void same_old_link(struct duel *d, uint32_t c, uint32_t size)
+{
+    const struct plain_tile *t = granted_whole(c, size);
+
+    if (t == NULL || t->state != PLAIN_CACHED)
+        return;
+    same_stacked(d, c, true);
+    d->report->old_links++;
 }
 
 /* Its own skip links stay in a chunk that leaves its bin. */
@@ -310,6 +373,7 @@ static uint32_t both_grant(struct duel *d, uint64_t n)
     } else {
         d->report->grants++;
         d->pair[d->pairs++] = (struct pair){ p, a.mem };
+        same_old_link(d, a.mem - 16, a.usable + 8);
         same_second_word(d, a.mem - 16, a.usable + 8);
         same_old_skips(d, a.mem - 16, a.usable + 8);
     }
@@ -680,14 +744,18 @@ static void run_sequence(struct duel *d, uint32_t calls)
 
 /* ---- a child's malloc made ready ---- */
 
-/* The second word of a block of glibc's while it is cached; 0 for no key. */
-static void learn_key(struct duel *d, void *p)
+/*
+ * What a block of glibc's holds while it alone is cached: its second word, 0
+ * for no key, and its link, 0 unless that is mixed.
+ */
+static void learn_words(struct duel *d, void *p)
 {
-    uintptr_t second = (uintptr_t)p + 8;
+    volatile uintptr_t first = (uintptr_t)p; /* it is read when it is free */
     memset(p, 0, 24);
     free(p);
-    d->key = their_number(second);
+    d->key = their_number(first + 8);
     d->keyed = d->key != 0;
+    d->mixes = their_number(first) != 0;
 }
 
 /* Leaves glibc a top of exactly that length and notes where it starts. */
@@ -699,7 +767,7 @@ static bool make_top(struct duel *d)
     char *p = malloc(24);
     if (p == NULL)
         return false;
-    learn_key(d, p);
+    learn_words(d, p);
     p = malloc(24); /* the same again */
     uintptr_t top = (uintptr_t)p + malloc_usable_size(p) - 8;
     uint64_t size = their_number(top + 8) & ~(uint64_t)15;
@@ -743,7 +811,8 @@ static void child(struct report *report, uint64_t seed, enum top top)
         fail(d, "malloc's top could not be made as long as the arena", 0, 0);
         return;
     }
-    second_open(arena, d->length, record, sizeof record, d->key);
+    second_open(arena, d->length, record, sizeof record, d->key,
+                seed % 4 == 0 ? 1 : 2);
     close_address_space();
     if (top == SHORT_TOP)
         block_between_fast_chunks(d);
@@ -792,9 +861,11 @@ static bool tell(const char *name, const struct report *report)
     else
         printf("ok %s, glibc %s: %llu grants, %llu releases, %llu refusals, "
                "%llu resizes (%llu moved, %llu refused) agree, and so do %llu "
-               "keys, %llu words 0 and %llu old back links, %llu skip links "
-               "that lead somewhere, %llu that do not and %llu old ones; %llu "
-               "sequences ended early by a top that grew\n",
+               "keys, %llu words 0 and %llu old back links, %llu cached links, "
+               "%llu fast ones, %llu ends of such lists and %llu old links, "
+               "%llu of them mixed here, %llu skip links that lead somewhere, "
+               "%llu that do not and %llu old ones; %llu sequences ended early "
+               "by a top that grew\n",
                name, gnu_get_libc_version(), (unsigned long long)report->grants,
                (unsigned long long)report->releases,
                (unsigned long long)report->refusals,
@@ -805,6 +876,11 @@ static bool tell(const char *name, const struct report *report)
                (unsigned long long)report->keys,
                (unsigned long long)report->zeros,
                (unsigned long long)report->links,
+               (unsigned long long)report->cached,
+               (unsigned long long)report->fast,
+               (unsigned long long)report->ends,
+               (unsigned long long)report->old_links,
+               (unsigned long long)report->mixed,
                (unsigned long long)report->skips,
                (unsigned long long)report->no_skips,
                (unsigned long long)report->old_skips,

@@ -1,5 +1,5 @@
 /*
- * Document 01's heap, with requests (i), (vi), (vii), (viii) and (x) of
+ * Document 01's heap, with requests (i), (vi), (vii), (viii), (x) and (xi) of
  * document 02. The order of the file: the heap's words, the lists, the rings,
  * joining, the numbered steps, resizing, the audit, the calls. A call checks
  * shape, then its number, then the whole heap, and only then writes; from there
@@ -26,7 +26,8 @@ enum refusal {
     REQUEST_TOO_LARGE = 2,
     NOT_SOUND = 3,
     NOT_LIVE = 4,
-    NO_ROOM = 5
+    NO_ROOM = 5,
+    BAD_EDITION = 12
 };
 
 struct heap {
@@ -65,6 +66,17 @@ static uint64_t widen(uint32_t offset)
 static void link_put(struct heap *h, uint32_t c, enum field f, uint32_t to)
 {
     field_put(h->arena, c, f, widen(to));
+}
+
+/* The same of a cached or fast chunk, whose link the edition may mix. */
+static uint32_t stack_next(const struct heap *h, uint32_t c)
+{
+    return (uint32_t)stack_link_get(h->arena, get(h, EDITION), c);
+}
+
+static void stack_link(struct heap *h, uint32_t c, uint32_t to)
+{
+    stack_link_put(h->arena, get(h, EDITION), c, widen(to));
 }
 
 static uint32_t size_of(const struct heap *h, uint32_t c)
@@ -145,7 +157,7 @@ static bool cache_has_room(const struct heap *h, uint32_t size)
 /* Whoever caches a chunk, or takes one from the cache, does it by these two. */
 static void cache_push(struct heap *h, unsigned k, uint32_t c)
 {
-    link_put(h, c, FORWARD, get(h, CACHE_HEAD + k));
+    stack_link(h, c, get(h, CACHE_HEAD + k));
     field_put(h->arena, c, CACHE_KEY, key_get(h->record));
     put(h, CACHE_HEAD + k, c);
     put(h, CACHE_COUNT + k, get(h, CACHE_COUNT + k) + 1);
@@ -156,7 +168,7 @@ static uint32_t cache_take(struct heap *h, unsigned k)
     uint32_t c = get(h, CACHE_HEAD + k);
     if (c == NONE)
         return NONE;
-    put(h, CACHE_HEAD + k, link_get(h, c, FORWARD));
+    put(h, CACHE_HEAD + k, stack_next(h, c));
     field_put(h->arena, c, CACHE_KEY, 0);
     put(h, CACHE_COUNT + k, get(h, CACHE_COUNT + k) - 1);
     return c;
@@ -164,7 +176,7 @@ static uint32_t cache_take(struct heap *h, unsigned k)
 
 static void fast_push(struct heap *h, unsigned k, uint32_t c)
 {
-    link_put(h, c, FORWARD, get(h, FAST_HEAD + k));
+    stack_link(h, c, get(h, FAST_HEAD + k));
     put(h, FAST_HEAD + k, c);
 }
 
@@ -172,7 +184,7 @@ static uint32_t fast_take(struct heap *h, unsigned k)
 {
     uint32_t c = get(h, FAST_HEAD + k);
     if (c != NONE)
-        put(h, FAST_HEAD + k, link_get(h, c, FORWARD));
+        put(h, FAST_HEAD + k, stack_next(h, c));
     return c;
 }
 
@@ -809,7 +821,7 @@ static bool meet(const struct heap *h, struct marks *m, uint64_t c,
 
 /* A stack's chunk size, and how many chunks of it there may be. */
 struct stack {
-    uint32_t head, size, most;
+    uint32_t head, size, most, edition;
     const uint64_t *key; /* each must have it; null: no key is asked for */
 };
 
@@ -824,25 +836,27 @@ static inline bool audit_stack(const struct heap *h, struct marks *m,
             return false;
         if (s.key && field_get(h->arena, (uint32_t)c, CACHE_KEY) != *s.key)
             return false;
-        c = field_get(h->arena, (uint32_t)c, FORWARD);
+        c = stack_link_get(h->arena, s.edition, (uint32_t)c);
     }
     return true;
 }
 
 static inline bool audit_cache(const struct heap *h, struct marks *m,
-                               unsigned k, const uint64_t *key)
+                               unsigned k, uint32_t edition,
+                               const uint64_t *key)
 {
     struct stack s = { get(h, CACHE_HEAD + k), CHUNK_MIN + 16 * k, CACHE_DEPTH,
-                       key };
+                       edition, key };
     uint32_t length;
     return audit_stack(h, m, s, &length) && length == get(h, CACHE_COUNT + k);
 }
 
 /* Lists 7 to 9 own no size, so nothing may be in them. */
-static inline bool audit_fast(const struct heap *h, struct marks *m, unsigned k)
+static inline bool audit_fast(const struct heap *h, struct marks *m,
+                              unsigned k, uint32_t edition)
 {
     struct stack s = { get(h, FAST_HEAD + k), CHUNK_MIN + 16 * k, UINT32_MAX,
-                       NULL };
+                       edition, NULL };
     uint32_t length;
     if (s.size > FAST_MAX)
         s.most = 0;
@@ -919,12 +933,13 @@ static bool audit_skips(const struct heap *h, unsigned bin)
 static struct second_fault audit_lists(const struct heap *h, struct marks *m,
                                        uint32_t version)
 {
+    uint32_t edition = edition_by(version, h->record);
     uint64_t key = key_get(h->record);
     for (unsigned k = 0; k < CACHE_LISTS; k++)
-        if (!audit_cache(h, m, k, version >= WITH_KEYS ? &key : NULL))
+        if (!audit_cache(h, m, k, edition, version >= WITH_KEYS ? &key : NULL))
             return fault(SECOND_CACHE, k);
     for (unsigned k = 0; k < FAST_LISTS; k++)
-        if (!audit_fast(h, m, k))
+        if (!audit_fast(h, m, k, edition))
             return fault(SECOND_FAST, k);
     for (unsigned bin = 1; bin <= BINS; bin++)
         if (!audit_bin(h, m, bin)
@@ -958,7 +973,8 @@ static struct second_fault audit_flags(const struct heap *h,
 static struct second_fault audit(const struct heap *h, struct marks *m,
                                  uint32_t version)
 {
-    if (get(h, ARENA_LENGTH) != h->length)
+    if (get(h, ARENA_LENGTH) != h->length
+        || !edition_allowed(edition_by(version, h->record)))
         return fault(SECOND_RECORD, 0);
     struct second_fault f = audit_tiles(h, m);
     if (f.kind == SECOND_SOUND)
@@ -991,7 +1007,7 @@ static bool shaped(struct heap *h, uint8_t *arena, size_t arena_len,
 }
 
 static void record_clear(uint8_t *record, uint32_t length, uint32_t top,
-                         uint64_t key)
+                         uint64_t key, uint32_t edition)
 {
     memset(record, 0xff, RECORD_BYTES);
     word_put(record, ARENA_LENGTH, length);
@@ -999,19 +1015,28 @@ static void record_clear(uint8_t *record, uint32_t length, uint32_t top,
     for (unsigned k = 0; k < CACHE_LISTS; k++)
         word_put(record, CACHE_COUNT + k, 0);
     key_put(record, key);
+    word_put(record, EDITION, edition);
+}
+
+/* What a refused open leaves, whatever the refusal. */
+static struct second_answer leave_closed(uint8_t *record, size_t record_len,
+                                         enum refusal no)
+{
+    if (record_len == RECORD_BYTES)
+        record_clear(record, 0, NONE, 0, NO_EDITION);
+    return answer(no);
 }
 
 struct second_answer second_open(uint8_t *arena, size_t arena_len,
                                  uint8_t *record, size_t record_len,
-                                 uint64_t key)
+                                 uint64_t key, uint32_t edition)
 {
     struct heap h;
-    if (!shaped(&h, arena, arena_len, record, record_len)) {
-        if (record_len == RECORD_BYTES)
-            record_clear(record, 0, NONE, 0);
-        return answer(BAD_SHAPE);
-    }
-    record_clear(record, h.length, 0, key);
+    if (!shaped(&h, arena, arena_len, record, record_len))
+        return leave_closed(record, record_len, BAD_SHAPE);
+    if (!edition_allowed(edition))
+        return leave_closed(record, record_len, BAD_EDITION);
+    record_clear(record, h.length, 0, key, edition);
     size_put(&h, 0, h.length);
     return answer(GRANTED);
 }

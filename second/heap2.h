@@ -1,11 +1,11 @@
 /*
  * The second program: document 01's heap in plain C, with requests (i), (vi),
- * (vii), (viii) and (x) of document 02, written from the documents alone, so
- * that another implementation can be held against it.
+ * (vii), (viii), (x) and (xi) of document 02, written from the documents alone,
+ * so that another implementation can be held against it.
  *
- * Each call works on an arena (lent bytes) and its control record (1,580
- * bytes: 393 little-endian words and the key). The two buffers must not
- * overlap; neither needs any alignment. Nothing is kept between calls.
+ * Each call works on an arena (lent bytes) and its control record (1,584
+ * bytes: 393 little-endian words, the key and the edition). The two buffers
+ * must not overlap; neither needs any alignment. Nothing is kept between calls.
  */
 #ifndef HEAP2_H
 #define HEAP2_H
@@ -37,10 +37,13 @@ enum second_kind {
     SECOND_FLAG
 };
 
-/* The key may be any number; it then stands in every cached chunk. */
+/*
+ * The key may be any number; it then stands in every cached chunk. Edition 1
+ * stores the links of cache and fast lists as they are, edition 2 mixed.
+ */
 struct second_answer second_open(uint8_t *arena, size_t arena_len,
                                  uint8_t *record, size_t record_len,
-                                 uint64_t key);
+                                 uint64_t key, uint32_t edition);
 struct second_answer second_grant(uint8_t *arena, size_t arena_len,
                                   uint8_t *record, size_t record_len,
                                   uint64_t n);
@@ -61,7 +64,8 @@ struct second_fault second_audit(const uint8_t *arena, size_t arena_len,
                                  const uint8_t *record, size_t record_len);
 /*
  * The same by the rules of images of that version: 1 asks no chunk its key or
- * its skip links, 2 the key alone, and 3, today's, both.
+ * its skip links, 2 the key alone, 3 both; 4, today's, asks the record its
+ * edition too and goes by it, where the others take it for 1.
  */
 struct second_fault second_audit_by(uint32_t version, const uint8_t *arena,
                                     size_t arena_len, const uint8_t *record,

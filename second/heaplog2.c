@@ -20,7 +20,8 @@
 #define MOST_NUMBERS 2
 #define LONGEST_LINE (1 + MOST_NUMBERS * (1 + MOST_DIGITS))
 #define OPEN_MAX 49152
-#define KEY 0 /* of every arena it opens */
+#define KEY 0 /* of every arena it opens, */
+#define OPENED_AS LINKS_PLAIN /* and its edition */
 
 struct line {
     char text[LONGEST_LINE];
@@ -113,7 +114,7 @@ static struct second_answer perform(struct run *run, const struct call *call)
     case 'A':
         run->arena_len = call->number[0];
         return second_open(run->arena, run->arena_len, run->record,
-                           sizeof run->record, KEY);
+                           sizeof run->record, KEY, OPENED_AS);
     case 'G':
         return second_grant(run->arena, run->arena_len, run->record,
                             sizeof run->record, call->number[0]);

@@ -59,6 +59,7 @@ static enum refusal refusal_of(const uint8_t *file, size_t file_len,
  * Of a sound heap, so that every link is one or none; cut to 32 bits it is.
  */
 
+/* In a bin. */
 static uint32_t behind(const uint8_t *arena, uint32_t c)
 {
     return (uint32_t)field_get(arena, c, FORWARD);
@@ -71,9 +72,10 @@ static uint64_t size_at(const uint8_t *arena, uint32_t c)
 
 static void write_keys(uint8_t *arena, const uint8_t *record)
 {
+    uint32_t edition = word_get(record, EDITION);
     for (unsigned k = 0; k < CACHE_LISTS; k++) {
         uint32_t c = word_get(record, CACHE_HEAD + k);
-        for (; c != NONE; c = behind(arena, c))
+        for (; c != NONE; c = (uint32_t)stack_link_get(arena, edition, c))
             field_put(arena, c, CACHE_KEY, key_get(record));
     }
 }
@@ -127,7 +129,7 @@ static void complete(uint8_t *arena, const uint8_t *record, uint32_t version)
 
 /* ---- reading ---- */
 
-/* The heap as it stands in the file, with the key 0 where that has none. */
+/* The heap as it stands in the file; where that has none, key 0, edition 1. */
 static void copy_heap(const uint8_t *file, uint8_t *arena, size_t arena_len,
                       uint8_t *record)
 {
@@ -135,6 +137,8 @@ static void copy_heap(const uint8_t *file, uint8_t *arena, size_t arena_len,
     memcpy(record, file + IMAGE_RECORD, record_bytes(version));
     if (version < WITH_KEYS)
         key_put(record, 0);
+    if (version < WITH_EDITIONS)
+        word_put(record, EDITION, LINKS_PLAIN);
     memcpy(arena, file + arena_at(version), arena_len);
 }
 

@@ -7,7 +7,7 @@
  *    c+8 -> +------------------------------+-+
  *           | size                         |P|  P clear: chunk before binned
  *   c+16 -> +------------------------------+-+  <- mem
- *           | forward link, or data          |
+ *           | forward link, or data          |  mixed in a stack of edition 2
  *   c+24 -> +--------------------------------+
  *           | back link, key, or data        |  the key if it is cached
  *   c+32 -> +--------------------------------+
@@ -27,9 +27,9 @@
 #include <stdint.h>
 #include <string.h>
 
-#define RECORD_WORDS 395
-#define RECORD_BYTES 1580
-#define KEYLESS_RECORD_BYTES 1572 /* as it was before there was a key */
+#define RECORD_BYTES 1584
+#define KEYED_RECORD_BYTES 1580   /* as it was before there was an edition */
+#define KEYLESS_RECORD_BYTES 1572 /* and before there was a key */
 #define ARENA_MIN 32
 #define ARENA_MAX 262144
 
@@ -64,8 +64,12 @@ enum word {
     BIN_FIRST = 139, /* of bin 0, which does not exist; two words a bin */
     BIN_LAST = 140,
     KEY_LOW = 393,
-    KEY_HIGH = 394
+    KEY_HIGH = 394,
+    EDITION = 395
 };
+
+/* How a stack's links are stored; a closed record has NO_EDITION. */
+enum edition { NO_EDITION = 0, LINKS_PLAIN = 1, LINKS_MIXED = 2 };
 
 /*
  * An image, a heap in a file:
@@ -73,8 +77,8 @@ enum word {
  *      0 -> +-----+---------+--------------+
  *           | HPI | version | arena length |  3, 2 and 4 bytes
  *      9 -> +-----+---------+--------------+
- *           | record                       |  version 1: without its key
- *           +------------------------------+
+ *           | record                       |  version 1: without its key,
+ *           +------------------------------+  1 to 3: without its edition
  *           | arena                        |
  *           +------------------------------+
  */
@@ -88,10 +92,11 @@ enum part {
 /*
  * The versions there are. Each has its own rules of a sound heap: only from
  * WITH_KEYS on is a chunk asked its key, only from WITH_SKIPS on its skip
- * links. An image is written in the newest, and the calls go by that.
+ * links; before WITH_EDITIONS there was edition 1 alone. An image is written in
+ * the newest, and the calls go by that.
  */
 enum version { WITHOUT_KEYS = 1, WITH_KEYS = 2, WITH_SKIPS = 3,
-               NEWEST = WITH_SKIPS };
+               WITH_EDITIONS = 4, NEWEST = WITH_EDITIONS };
 
 #define IMAGE_MAX (IMAGE_RECORD + RECORD_BYTES + ARENA_MAX)
 
@@ -148,6 +153,39 @@ static inline void key_put(uint8_t *record, uint64_t key)
     word_put(record, KEY_HIGH, (uint32_t)(key >> 32));
 }
 
+static inline bool edition_allowed(uint32_t edition)
+{
+    return edition == LINKS_PLAIN || edition == LINKS_MIXED;
+}
+
+/* The edition of a heap by the rules of that version. */
+static inline uint32_t edition_by(uint32_t version, const uint8_t *record)
+{
+    return version < WITH_EDITIONS ? LINKS_PLAIN : word_get(record, EDITION);
+}
+
+/*
+ * Of a cached or fast chunk: what its forward link is exclusive-or'ed with
+ * where it is stored. In edition 2 that is the position of the link itself,
+ * divided by 4,096, as in glibc since 2.32; none is stored so too.
+ */
+static inline uint64_t mixed_with(uint32_t edition, uint32_t c)
+{
+    return edition == LINKS_MIXED ? (c + FORWARD) / 4096 : 0;
+}
+
+static inline uint64_t stack_link_get(const uint8_t *arena, uint32_t edition,
+                                      uint32_t c)
+{
+    return field_get(arena, c, FORWARD) ^ mixed_with(edition, c);
+}
+
+static inline void stack_link_put(uint8_t *arena, uint32_t edition, uint32_t c,
+                                  uint64_t to)
+{
+    field_put(arena, c, FORWARD, to ^ mixed_with(edition, c));
+}
+
 static inline uint32_t version_get(const uint8_t *file)
 {
     return file[IMAGE_VERSION] | (uint32_t)file[IMAGE_VERSION + 1] << 8;
@@ -167,7 +205,9 @@ static inline bool version_known(uint32_t version)
 /* Of a known version: the record's bytes in the file, and where they end. */
 static inline size_t record_bytes(uint32_t version)
 {
-    return version < WITH_KEYS ? KEYLESS_RECORD_BYTES : RECORD_BYTES;
+    return version < WITH_KEYS    ? KEYLESS_RECORD_BYTES
+        : version < WITH_EDITIONS ? KEYED_RECORD_BYTES
+                                  : RECORD_BYTES;
 }
 
 static inline size_t arena_at(uint32_t version)

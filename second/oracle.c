@@ -86,11 +86,21 @@ static bool owns(const struct list *l, uint64_t size)
     return l->number == 1 || plain_bin(size) == l->number;
 }
 
+/* What stands behind c in the list; the links of bins are never mixed. */
+static uint64_t behind(const struct subject *s, const struct list *l,
+                       uint64_t c)
+{
+    uint64_t stored = eight(s, c + 16);
+    bool mixed = s->version >= 4 && plain_edition(s->record) == 2
+        && l->kind != SECOND_BIN;
+    return mixed ? stored ^ ((c + 16) / 4096) : stored;
+}
+
 /* Reads a list out; a name that is no chunk, or a ring, makes it bad. */
 static bool read_out(const struct subject *s, const struct list *l)
 {
     members.count = 0;
-    for (uint64_t c = l->start; c != PLAIN_NONE64; c = eight(s, c + 16)) {
+    for (uint64_t c = l->start; c != PLAIN_NONE64; c = behind(s, l, c)) {
         if (!holds(&chunks, c) || members.count == chunks.count)
             return false;
         add(&members, c);
@@ -228,7 +238,8 @@ struct second_fault oracle_audit(const uint8_t *arena, size_t length,
     if (length < 32 || length > PLAIN_ARENA_MAX || length % 16 != 0
         || record_len != PLAIN_RECORD_BYTES)
         return (struct second_fault){ 1, 0, 0 };
-    if (plain_word(record, 0) != length)
+    if (plain_word(record, 0) != length
+        || (version >= 4 && plain_edition(record) - 1 > 1))
         return (struct second_fault){ 0, SECOND_RECORD, 0 };
     uint64_t bad_tile = collect_tiles(&s);
     if (bad_tile != PLAIN_NONE64)

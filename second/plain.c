@@ -2,17 +2,20 @@
 
 static uint16_t tile_at[PLAIN_ARENA_MAX / 16];
 
-static void paint(struct plain_view *view, const uint8_t *arena, uint32_t head,
-                  enum plain_state state)
+/* A bin's links are those of edition 1. */
+static void paint(struct plain_view *view, const uint8_t *arena,
+                  uint32_t edition, uint32_t head, enum plain_state state)
 {
     uint64_t c = head == PLAIN_NONE32 ? PLAIN_NONE64 : head;
-    for (; c != PLAIN_NONE64; c = plain_get(arena + c + 16, 8))
+    for (; c != PLAIN_NONE64; c = plain_link(arena, edition, c))
         view->tile[tile_at[c / 16]].state = state;
 }
 
 void plain_read(struct plain_view *view, const uint8_t *arena, uint32_t length,
                 const uint8_t *record)
 {
+    uint32_t edition = plain_edition(record);
+
     view->tiles = 0;
     for (uint32_t at = 0; at < length;) {
         uint64_t word = plain_get(arena + at + 8, 8);
@@ -24,12 +27,13 @@ void plain_read(struct plain_view *view, const uint8_t *arena, uint32_t length,
     }
     view->tile[view->tiles - 1].state = PLAIN_TOP;
     for (unsigned k = 0; k < 64; k++)
-        paint(view, arena, plain_word(record, plain_cache_head(k)),
+        paint(view, arena, edition, plain_word(record, plain_cache_head(k)),
               PLAIN_CACHED);
     for (unsigned k = 0; k < 10; k++)
-        paint(view, arena, plain_word(record, plain_fast_head(k)), PLAIN_FAST);
+        paint(view, arena, edition, plain_word(record, plain_fast_head(k)),
+              PLAIN_FAST);
     for (unsigned i = 1; i <= 126; i++)
-        paint(view, arena, plain_word(record, plain_bin_first(i)),
+        paint(view, arena, 1, plain_word(record, plain_bin_first(i)),
               PLAIN_BINNED);
 }
 
@@ -86,6 +90,21 @@ void plain_put_skips(uint8_t *arena, const uint8_t *record)
         put_ring(arena, record, bin);
 }
 
+void plain_to_edition(uint8_t *arena, uint8_t *record, uint32_t edition)
+{
+    for (unsigned i = 0; i < 74; i++) {
+        uint32_t head = plain_word(record, i < 64 ? plain_cache_head(i)
+                                                  : plain_fast_head(i - 64));
+        uint64_t c = head == PLAIN_NONE32 ? PLAIN_NONE64 : head;
+        while (c != PLAIN_NONE64) {
+            uint64_t next = plain_link(arena, plain_edition(record), c);
+            plain_put_link(arena, edition, c, next);
+            c = next;
+        }
+    }
+    plain_put_edition(record, edition);
+}
+
 static void put_keys(uint8_t *arena, uint32_t length, const uint8_t *record)
 {
     static struct plain_view view;
@@ -101,6 +120,8 @@ void plain_from_old(uint8_t *arena, uint32_t length, uint8_t *record,
 {
     if (version == 1)
         plain_put_key(record, 0);
+    if (version <= 3)
+        plain_put_edition(record, 1);
     if (version == 1 && sound)
         put_keys(arena, length, record);
     if (version <= 2 && sound)

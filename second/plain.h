@@ -8,8 +8,8 @@
 #include <stdbool.h>
 #include <stdint.h>
 
-#define PLAIN_RECORD_BYTES 1580u
-#define PLAIN_WORDS 393u /* of the record, before the key */
+#define PLAIN_RECORD_BYTES 1584u
+#define PLAIN_WORDS 393u /* of the record, before key and edition */
 #define PLAIN_ARENA_MAX 262144u
 #define PLAIN_TILES_MAX (PLAIN_ARENA_MAX / 32)
 #define PLAIN_NONE32 0xffffffffu
@@ -47,6 +47,35 @@ static inline uint64_t plain_key(const uint8_t *record)
 static inline void plain_put_key(uint8_t *record, uint64_t key)
 {
     plain_put(record + 1572, 8, key);
+}
+
+static inline uint32_t plain_edition(const uint8_t *record)
+{
+    return (uint32_t)plain_get(record + 1580, 4);
+}
+
+static inline void plain_put_edition(uint8_t *record, uint32_t edition)
+{
+    plain_put(record + 1580, 4, edition);
+}
+
+/* How a link to there is stored at c + 16, if c is cached or fast. */
+static inline uint64_t plain_stored(uint32_t edition, uint64_t c, uint64_t to)
+{
+    return edition == 2 ? to ^ ((c + 16) >> 12) : to;
+}
+
+/* The link of a cached or fast chunk; stored twice over it is itself. */
+static inline uint64_t plain_link(const uint8_t *arena, uint32_t edition,
+                                  uint64_t c)
+{
+    return plain_stored(edition, c, plain_get(arena + c + 16, 8));
+}
+
+static inline void plain_put_link(uint8_t *arena, uint32_t edition, uint64_t c,
+                                  uint64_t to)
+{
+    plain_put(arena + c + 16, 8, plain_stored(edition, c, to));
 }
 
 static inline unsigned plain_cache_head(unsigned k) { return 3 + k; }
@@ -102,11 +131,14 @@ void plain_read(struct plain_view *view, const uint8_t *arena, uint32_t length,
  */
 void plain_put_skips(uint8_t *arena, const uint8_t *record);
 
+/* Makes a heap that is known to be sound one of that edition. */
+void plain_to_edition(uint8_t *arena, uint8_t *record, uint32_t edition);
+
 /*
  * What a heap from an image of that version becomes when it is read. Of version
  * 1 it has the key 0, and, if it is sound by the rules of that version, 0 in
  * each cached chunk; of version 1 and 2 it has, if it is sound so, its skip
- * links; of version 3 it stays.
+ * links; of version 1 to 3 it is of edition 1; of version 4 it stays.
  */
 void plain_from_old(uint8_t *arena, uint32_t length, uint8_t *record,
                     unsigned version, bool sound);

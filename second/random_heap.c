@@ -53,6 +53,11 @@ uint64_t random_key(struct random *r)
     }
 }
 
+uint32_t random_edition(struct random *r)
+{
+    return 1 + random_below(r, 2);
+}
+
 /* ---- sound heaps ---- */
 
 enum home { NO_LIST = 0, FIRST_CACHE = 1, FIRST_FAST = 65, FIRST_BIN = 75 };
@@ -74,6 +79,7 @@ struct plan {
     uint32_t cached[64];
     uint32_t weight[5]; /* live, cache, fast, own bin, unsorted */
     uint64_t key;
+    uint32_t edition;
 };
 
 static uint32_t random_size(struct random *r, const struct plan *plan)
@@ -216,13 +222,38 @@ static uint64_t key_of_cached(struct random *r, const struct plan *plan)
         ? other_key(r, plan->key) : plan->key;
 }
 
+/* How no edition, or another than this one, would store a stack's link. */
+static uint64_t stored_otherwise(struct random *r, uint32_t edition, uint64_t c,
+                                 uint64_t to)
+{
+    switch (random_below(r, 5)) {
+    case 0: return plain_stored(3 - edition, c, to);
+    case 1: return to ^ c / 4096; /* by the chunk's position */
+    case 2: return to ^ (c + 16) / 2048;
+    case 3: return plain_stored(edition, c, to) ^ ((uint64_t)1 << 32);
+    default:
+        return to == PLAIN_NONE64 ? to : plain_stored(2, c + 4096, to);
+    }
+}
+
+static uint64_t stored_link(struct random *r, const struct plan *plan,
+                            const struct piece *piece, uint64_t to)
+{
+    if (is_bin(piece->list))
+        return to;
+    return plan->flaw == FLAW_MIX && random_chance(r, 5)
+        ? stored_otherwise(r, plan->edition, piece->at, to)
+        : plain_stored(plan->edition, piece->at, to);
+}
+
 static void write_links(struct random *r, const struct plan *plan,
                         const struct piece *piece, uint32_t count,
                         uint8_t *arena)
 {
     for (uint32_t i = 0; i < count; i++) {
         uint8_t *at = arena + piece[i].at;
-        plain_put(at + 16, 8, i + 1 < count ? piece[i + 1].at : PLAIN_NONE64);
+        uint64_t to = i + 1 < count ? piece[i + 1].at : PLAIN_NONE64;
+        plain_put(at + 16, 8, stored_link(r, plan, &piece[i], to));
         if (is_bin(piece[i].list))
             plain_put(at + 24, 8, i > 0 ? piece[i - 1].at : PLAIN_NONE64);
         else if (piece[i].list < FIRST_FAST)
@@ -331,6 +362,7 @@ void flawed_heap(struct random *r, enum flaw flaw, uint8_t *arena,
     random_bytes(r, arena, length);
     plan.flaw = flaw;
     plan.key = random_key(r);
+    plan.edition = random_edition(r);
     plan_pieces(r, &plan, length);
     plan_lists(r, &plan);
     write_tiles(&plan, arena, length);
@@ -338,6 +370,7 @@ void flawed_heap(struct random *r, enum flaw flaw, uint8_t *arena,
     for (unsigned i = 0; i < PLAIN_WORDS; i++)
         plain_put_word(record, i, PLAIN_NONE32);
     plain_put_key(record, plan.key);
+    plain_put_edition(record, plan.edition);
     for (unsigned k = 0; k < 64; k++)
         plain_put_word(record, plain_cache_count(k), 0);
     plain_put_word(record, 0, length);
@@ -434,14 +467,24 @@ static unsigned random_filled_start(struct random *r, const uint8_t *record)
     return word;
 }
 
-static uint32_t random_listed(struct random *r, const uint8_t *arena,
-                              uint32_t length, const uint8_t *record)
+/* The edition by which the links are stored of the list with that start. */
+static uint32_t edition_of_list(const uint8_t *record, unsigned start)
 {
-    uint32_t at = plain_word(record, random_filled_start(r, record));
+    return start < plain_bin_first(1) ? plain_edition(record) : 1;
+}
+
+/* Links stored by that edition lead to it. */
+static uint32_t random_listed(struct random *r, const uint8_t *arena,
+                              uint32_t length, const uint8_t *record,
+                              uint32_t *edition)
+{
+    unsigned start = random_filled_start(r, record);
+    uint32_t at = plain_word(record, start);
+    *edition = edition_of_list(record, start);
     if (at == PLAIN_NONE32)
         return random_tile(r, arena, length);
     while (random_chance(r, 60)) {
-        uint64_t next = plain_get(arena + at + 16, 8);
+        uint64_t next = plain_link(arena, *edition, at);
         if (next == PLAIN_NONE64)
             break;
         at = (uint32_t)next;
@@ -453,9 +496,10 @@ static uint32_t random_listed(struct random *r, const uint8_t *arena,
 static uint64_t tempting(struct random *r, const uint8_t *arena,
                          uint32_t length, const uint8_t *record)
 {
+    uint32_t any;
     uint32_t tile = random_chance(r, 50)
         ? random_tile(r, arena, length)
-        : random_listed(r, arena, length, record);
+        : random_listed(r, arena, length, record, &any);
     switch (random_below(r, 12)) {
     case 0: return PLAIN_NONE64;
     case 1: return PLAIN_NONE32;
@@ -492,7 +536,7 @@ static unsigned random_record_word(struct random *r, const uint8_t *record)
     case 2: return 2;
     case 3:
         return random_chance(r, 70) ? plain_cache_count(random_below(r, 64))
-                                    : PLAIN_WORDS + random_below(r, 2);
+                                    : PLAIN_WORDS + random_below(r, 3);
     case 4: case 5: /* the count or last that goes with the start */
         return word < 67 ? word + 64 : word < 141 ? word : word + 1;
     default: return word;
@@ -503,7 +547,8 @@ void damage_field(struct random *r, uint8_t *arena, uint32_t length,
                   uint8_t *record)
 {
     uint32_t tile = random_tile(r, arena, length);
-    uint32_t listed = random_listed(r, arena, length, record);
+    uint32_t edition;
+    uint32_t listed = random_listed(r, arena, length, record, &edition);
     uint64_t value = tempting(r, arena, length, record);
     unsigned word = random_record_word(r, record);
     uint32_t near = random_chance(r, 50) ? 1 : 16;
@@ -516,7 +561,8 @@ void damage_field(struct random *r, uint8_t *arena, uint32_t length,
                   other_size_word(r, plain_get(arena + tile + 8, 8)));
         break;
     case 2:
-        plain_put(arena + listed + 16, 8, value);
+        plain_put_link(arena, random_chance(r, 70) ? edition : 1, listed,
+                       value);
         break;
     case 3:
         plain_put(arena + listed + 24, 8, value);
@@ -549,7 +595,7 @@ static uint32_t nth_cached(const uint8_t *arena, const uint8_t *record,
         }
         uint32_t at = plain_word(record, plain_cache_head(*list));
         for (; nth > 0; nth--)
-            at = (uint32_t)plain_get(arena + at + 16, 8);
+            at = (uint32_t)plain_link(arena, plain_edition(record), at);
         return at;
     }
     return PLAIN_NONE32;
@@ -577,6 +623,47 @@ unsigned damage_skip(struct random *r, uint8_t *arena, const uint8_t *record)
     const struct skipped *chosen = &skipped[random_below(r, count)];
     put_other_skip(r, arena, chosen->at, count);
     return chosen->bin;
+}
+
+/* A chunk in a stack, and the list that it is in. */
+struct stacked {
+    uint32_t at;
+    unsigned list;
+};
+
+unsigned damage_link(struct random *r, uint8_t *arena, const uint8_t *record)
+{
+    static struct stacked stacked[PLAIN_TILES_MAX];
+    uint32_t count = 0, edition = plain_edition(record);
+
+    for (unsigned i = 0; i < 74; i++) {
+        uint32_t head = plain_word(record, i < 64 ? plain_cache_head(i)
+                                                  : plain_fast_head(i - 64));
+        uint64_t c = head == PLAIN_NONE32 ? PLAIN_NONE64 : head;
+        for (; c != PLAIN_NONE64; c = plain_link(arena, edition, c))
+            stacked[count++] = (struct stacked){ (uint32_t)c, i };
+    }
+    if (count == 0)
+        return 74;
+    struct stacked s = stacked[random_below(r, count)];
+    uint64_t right = plain_get(arena + s.at + 16, 8), other = right;
+    for (unsigned tries = 0; tries < 9 && other == right; tries++)
+        other = stored_otherwise(r, edition, s.at,
+                                 plain_link(arena, edition, s.at));
+    if (other == right)
+        other ^= (uint64_t)1 << random_below(r, 64);
+    plain_put(arena + s.at + 16, 8, other);
+    return s.list;
+}
+
+void damage_edition(struct random *r, uint8_t *record)
+{
+    static const uint32_t near[] = { 0, 3, 4, 0x101, 0x102, 0x10001, 0x20000,
+                                     0x01000000, 0x02000000, 0x80000001,
+                                     0x80000002, PLAIN_NONE32 };
+    uint32_t other = random_chance(r, 60) ? near[random_below(r, 12)]
+                                          : (uint32_t)random_next(r);
+    plain_put_edition(record, other == 1 || other == 2 ? 0 : other);
 }
 
 /* A tile of the same size, if a few draws find one, else any. */
@@ -615,7 +702,10 @@ void damage_lists(struct random *r, uint8_t *arena, uint32_t length,
         uint32_t size = size_at(arena, from);
         uint32_t to = random_equal(r, arena, length, size);
         switch (random_below(r, 4)) {
-        case 0: case 1: plain_put(arena + from + 16, 8, to); break;
+        case 0: plain_put(arena + from + 16, 8, to); break;
+        case 1:
+            plain_put_link(arena, plain_edition(record), from, to);
+            break;
         case 2: plain_put(arena + from + 24, 8, to); break;
         default: plain_put_word(record, random_home(r, size), to);
         }

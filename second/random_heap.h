@@ -25,7 +25,13 @@ uint32_t random_length(struct random *r, uint32_t most);
 /* A key: now and then 0, all ones, an offset, or one with many equal bytes. */
 uint64_t random_key(struct random *r);
 
-/* Overwrites arena and record with a sound heap, which has such a key. */
+/* 1 or 2. */
+uint32_t random_edition(struct random *r);
+
+/*
+ * Overwrites arena and record with a sound heap, which has such a key and such
+ * an edition.
+ */
 void random_heap(struct random *r, uint8_t *arena, uint32_t length,
                  uint8_t *record);
 
@@ -47,6 +53,7 @@ enum flaw {
     FLAW_HOME,       /* chunks in lists that own other sizes */
     FLAW_KEY,        /* cached chunks with words that are not the key */
     FLAW_SKIP,       /* large free chunks with wrong skip links */
+    FLAW_MIX,        /* links of stacks stored as no edition, or the other */
     FLAW_COUNT
 };
 
@@ -56,8 +63,8 @@ void flawed_heap(struct random *r, enum flaw flaw, uint8_t *arena,
 
 /*
  * Changes one field of a sound heap: a size word, a flag, a link, a key, a skip
- * link, a head, a count, a last, the length, the top or a previous size. The
- * heap may by chance stay sound.
+ * link, a head, a count, a last, the length, the top, the edition or a previous
+ * size. The heap may by chance stay sound.
  */
 void damage_field(struct random *r, uint8_t *arena, uint32_t length,
                   uint8_t *record);
@@ -74,6 +81,16 @@ unsigned damage_key(struct random *r, uint8_t *arena, const uint8_t *record);
  * nothing is written, if there is no such chunk.
  */
 unsigned damage_skip(struct random *r, uint8_t *arena, const uint8_t *record);
+
+/*
+ * Stores another link in one cached or fast chunk of a sound heap, mostly one
+ * that would be right if it were mixed otherwise. Answers its list, 0 to 63 in
+ * the cache, 64 to 73 fast; 74, and nothing is written, if there is none.
+ */
+unsigned damage_link(struct random *r, uint8_t *arena, const uint8_t *record);
+
+/* Puts a number that is no edition where the edition stands. */
+void damage_edition(struct random *r, uint8_t *record);
 
 /*
  * Has links and starts of lists lead to other chunks, mostly to ones of a size

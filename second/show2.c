@@ -125,6 +125,16 @@ static bool good(const struct heap *h, const struct list *l, uint32_t count,
             || t->size <= before->size);
 }
 
+/* What is named behind t. */
+static uint64_t named_behind(const struct heap *h, const struct list *l,
+                             const struct second_tile *t)
+{
+    if (l->state == SECOND_IS_BINNED)
+        return field_get(h->arena, t->offset, FORWARD);
+    return stack_link_get(h->arena, edition_by(h->version, h->record),
+                          t->offset);
+}
+
 /* All ones, of 32 bits or of 64, are no tile either. */
 static void walk(struct heap *h, const struct list *l)
 {
@@ -137,7 +147,7 @@ static void walk(struct heap *h, const struct list *l)
         t->number = l->number;
         count++;
         before = t;
-        t = tile_of(h, field_get(h->arena, t->offset, FORWARD));
+        t = tile_of(h, named_behind(h, l, t));
     }
 }
 
@@ -195,7 +205,8 @@ static size_t arena_length(const uint8_t *file, size_t file_len)
     return file_len < at || file_len - at > ARENA_MAX ? 0 : file_len - at;
 }
 
-void second_show_image(FILE *out, const uint8_t *file, size_t file_len)
+void second_show_image(FILE *out, const uint8_t *file, size_t file_len,
+                       bool with_edition)
 {
     static uint8_t arena[ARENA_MAX], record[RECORD_BYTES];
     static struct second_tile tile[SECOND_TILES_MAX];
@@ -208,6 +219,8 @@ void second_show_image(FILE *out, const uint8_t *file, size_t file_len)
         return;
     }
     fprintf(out, "image %" PRIu32 " %zu\n", version_get(file), length);
+    if (with_edition)
+        fprintf(out, "edition %" PRIu32 "\n", word_get(record, EDITION));
     print_fault(out, f);
     if (f.kind == SECOND_RECORD || f.kind == SECOND_TILE)
         return;

@@ -1,7 +1,8 @@
 /*
  * The audit against the slow one of oracle.c, place included, by the rules of
- * today and by those of images of versions 1 and 2; and what the calls do on
- * heaps that are not sound: answer 3 and write nothing.
+ * today and by those of images of versions 1 to 3, on heaps of both editions;
+ * and what the calls do on heaps that are not sound: answer 3 and write
+ * nothing.
  */
 #include <string.h>
 
@@ -9,6 +10,8 @@
 #include "oracle.h"
 #include "plain.h"
 #include "random_heap.h"
+
+#define NEWEST 4u /* of the versions; the audit goes by it */
 
 /* Long enough for lists of several chunks. */
 static uint32_t random_medium_length(struct random *r)
@@ -45,18 +48,50 @@ static struct second_fault audit_by(struct lent *l, unsigned version,
 /* By older rules the slow one is asked of every fourth heap only. */
 static struct second_fault audit_checked(struct lent *l, uint64_t seed)
 {
-    struct second_fault f = audit_by(l, 3, seed);
+    struct second_fault f = audit_by(l, NEWEST, seed);
     CHECK(same_fault(f, lent_audit(l)),
-          "seed %llu: the audit is not that of version 3",
+          "seed %llu: the audit is not that of version 4",
           (unsigned long long)seed);
     if (seed % 4 == 0)
-        audit_by(l, 1 + seed / 4 % 2, seed);
+        audit_by(l, 1 + seed / 4 % 3, seed);
     return f;
+}
+
+/*
+ * By the rules of that version, in which the heap is first put if it is an
+ * older one: all its stacks lead to their ends.
+ */
+static struct second_fault audit_as(struct lent *l, unsigned version,
+                                    uint64_t seed)
+{
+    uint32_t edition = plain_edition(l->record);
+
+    if (version < NEWEST)
+        plain_to_edition(l->arena, l->record, 1);
+    struct second_fault f = audit_by(l, version, seed);
+    plain_to_edition(l->arena, l->record, edition);
+    return f;
+}
+
+/* Below 4,080 a link is stored in edition 2 as it is. */
+static bool is_mixed(const struct plain_tile *t)
+{
+    return t->at >= 4080
+        && (t->state == PLAIN_CACHED || t->state == PLAIN_FAST);
+}
+
+static uint64_t mixed_links(const struct lent *l,
+                            const struct plain_view *view)
+{
+    uint64_t count = 0;
+    for (uint32_t i = 0; i < view->tiles; i++)
+        count += plain_edition(l->record) == 2 && is_mixed(&view->tile[i]);
+    return count;
 }
 
 static void sound_heaps(uint32_t rounds)
 {
-    uint64_t seen[4] = { 0 };
+    uint64_t seen[4] = { 0 }, mixed = 0;
 
     group("random sound heaps pass the audit and the slow audit");
     for (uint64_t seed = 1; seed <= rounds && !group_failed(); seed++) {
@@ -72,13 +107,16 @@ static void sound_heaps(uint32_t rounds)
         for (uint32_t i = 0; i < view.tiles; i++)
             if (view.tile[i].state != PLAIN_TOP)
                 seen[view.tile[i].state]++;
+        mixed += mixed_links(&l, &view);
         give_back(&l);
     }
-    remark(", %llu live, %llu cached, %llu fast, %llu binned chunks",
+    remark(", %llu live, %llu cached, %llu fast, %llu binned chunks, %llu "
+           "links that are mixed",
            (unsigned long long)seen[PLAIN_LIVE],
            (unsigned long long)seen[PLAIN_CACHED],
            (unsigned long long)seen[PLAIN_FAST],
-           (unsigned long long)seen[PLAIN_BINNED]);
+           (unsigned long long)seen[PLAIN_BINNED], (unsigned long long)mixed);
+    CHECK(mixed > 0, "the generator never made a mixed link");
     for (unsigned i = 0; i < 4; i++)
         CHECK(seen[i] > 0, "the generator never made a chunk of state %u", i);
 }
@@ -127,11 +165,11 @@ static void with_an_old_key(struct random *r, struct lent *l, uint64_t seed)
     unsigned first = first_cached(l);
 
     plain_put_key(l->record, key ^ (1 + random_next(r) / 2));
-    CHECK(first == 64 ? names(audit_by(l, 3, seed), SECOND_SOUND, 0)
-                      : names(audit_by(l, 3, seed), SECOND_CACHE, first),
+    CHECK(first == 64 ? names(audit_by(l, NEWEST, seed), SECOND_SOUND, 0)
+                      : names(audit_by(l, NEWEST, seed), SECOND_CACHE, first),
           "seed %llu: another key in the record does not name list %u",
           (unsigned long long)seed, first);
-    CHECK(names(audit_by(l, 1, seed), SECOND_SOUND, 0),
+    CHECK(names(audit_as(l, 1, seed), SECOND_SOUND, 0),
           "seed %llu: the key is asked of version 1", (unsigned long long)seed);
     plain_put_key(l->record, key);
 }
@@ -149,13 +187,13 @@ static void wrong_keys(uint32_t rounds)
         unsigned k = damage_key(&r, l.arena, l.record);
         if (k < 64) {
             lists[k]++;
-            CHECK(names(audit_by(&l, 2 + i % 2, seeds + i), SECOND_CACHE, k),
+            CHECK(names(audit_as(&l, 2 + i % 3, seeds + i), SECOND_CACHE, k),
                   "seed %llu: not the fault of cache list %u",
                   (unsigned long long)(seeds + i), k);
         } else {
             sound++;
         }
-        CHECK(names(audit_by(&l, 1, seeds + i), SECOND_SOUND, 0),
+        CHECK(names(audit_as(&l, 1, seeds + i), SECOND_SOUND, 0),
               "seed %llu: a fault of version 1", (unsigned long long)i);
         give_back(&l);
     }
@@ -206,11 +244,11 @@ static void wrong_skips(uint32_t rounds)
                   (unsigned long long)(seeds + i), word);
             met[which][word / 8 % 2]++;
             bins[bin]++;
-            CHECK(names(audit_by(&l, 3, seeds + i), SECOND_BIN, bin),
+            CHECK(names(audit_as(&l, 3 + i % 2, seeds + i), SECOND_BIN, bin),
                   "seed %llu: not the fault of bin %u",
                   (unsigned long long)(seeds + i), bin);
         }
-        CHECK(names(audit_by(&l, 1 + i % 2, seeds + i), SECOND_SOUND, 0),
+        CHECK(names(audit_as(&l, 1 + i % 2, seeds + i), SECOND_SOUND, 0),
               "seed %llu: a fault of an older version", (unsigned long long)i);
         give_back(&before);
         give_back(&l);
@@ -240,7 +278,7 @@ static void skips_in_order(uint32_t rounds)
         random_heap(&r, l.arena, (uint32_t)l.length, l.record);
         unsigned one = damage_skip(&r, l.arena, l.record);
         unsigned other = damage_skip(&r, l.arena, l.record);
-        struct second_fault f = audit_by(&l, 3, seeds + i);
+        struct second_fault f = audit_by(&l, NEWEST, seeds + i);
         if (one != other) {
             met++;
             CHECK(names(f, SECOND_BIN, one < other ? one : other),
@@ -253,6 +291,99 @@ static void skips_in_order(uint32_t rounds)
     remark(", %llu heaps", (unsigned long long)met);
     CHECK(met > rounds / 8, "only %llu heaps had two such bins",
           (unsigned long long)met);
+}
+
+/* In the audit's order, cache lists from 0 on, fast lists from 64 on. */
+static bool names_stack(struct second_fault f, unsigned list)
+{
+    return list < 64 ? names(f, SECOND_CACHE, list)
+                     : names(f, SECOND_FAST, list - 64);
+}
+
+/*
+ * A fast list has no count: where a wrong link leads to its end, or further on
+ * in it, nothing is wrong but what was behind.
+ */
+static void wrong_links(uint32_t rounds)
+{
+    uint64_t seeds = 1u << 27, met[2][2] = { { 0 } }, sound = 0;
+
+    group("a link stored otherwise in one chunk of a stack names its list");
+    for (uint64_t i = 1; i <= rounds && !group_failed(); i++) {
+        struct random r = { seeds + i };
+        struct lent l = lend(random_medium_length(&r), 0);
+        random_heap(&r, l.arena, (uint32_t)l.length, l.record);
+        unsigned list = damage_link(&r, l.arena, l.record);
+        struct second_fault f = audit_by(&l, NEWEST, seeds + i);
+        if (list >= 64 && list < 74 && f.kind == SECOND_SOUND) {
+            sound++;
+        } else if (list < 74) {
+            met[plain_edition(l.record) - 1][list >= 64]++;
+            CHECK(names_stack(f, list),
+                  "seed %llu: list %u, and the audit says %u %u",
+                  (unsigned long long)(seeds + i), list, f.kind, f.number);
+        }
+        give_back(&l);
+    }
+    remark(", cache and fast lists in edition 1: %llu, %llu, in edition 2: "
+           "%llu, %llu; %llu heaps stayed sound",
+           (unsigned long long)met[0][0], (unsigned long long)met[0][1],
+           (unsigned long long)met[1][0], (unsigned long long)met[1][1],
+           (unsigned long long)sound);
+    for (unsigned i = 0; i < 4; i++)
+        CHECK(met[i / 2][i % 2] > 0, "kind %u of link was never wrong", i);
+    CHECK(sound < rounds / 20, "%llu heaps stayed sound",
+          (unsigned long long)sound);
+}
+
+/* The first stack, in that order, that has a mixed link in edition 2; or 74. */
+static unsigned first_mixed(const struct lent *l)
+{
+    uint32_t edition = plain_edition(l->record);
+    for (unsigned i = 0; i < 74; i++) {
+        uint32_t head = plain_word(l->record, i < 64 ? plain_cache_head(i)
+                                                     : plain_fast_head(i - 64));
+        uint64_t c = head == PLAIN_NONE32 ? PLAIN_NONE64 : head;
+        for (; c != PLAIN_NONE64; c = plain_link(l->arena, edition, c))
+            if (c >= 4080)
+                return i;
+    }
+    return 74;
+}
+
+static void wrong_editions(uint32_t rounds)
+{
+    uint64_t seeds = 1u << 28, misread = 0, same = 0;
+
+    group("a number that is no edition is a record fault, the other edition "
+          "misreads mixed links");
+    for (uint64_t i = 1; i <= rounds && !group_failed(); i++) {
+        struct random r = { seeds + i };
+        struct lent l = lend(i % 4 == 0 ? random_length(&r, 8192)
+                                        : random_medium_length(&r), 0);
+        random_heap(&r, l.arena, (uint32_t)l.length, l.record);
+        uint32_t edition = plain_edition(l.record);
+        unsigned list = first_mixed(&l);
+        plain_put_edition(l.record, 3 - edition);
+        struct second_fault f = audit_by(&l, NEWEST, seeds + i);
+        CHECK(list == 74 ? f.kind == SECOND_SOUND : names_stack(f, list),
+              "seed %llu: edition %u read as the other: %u %u",
+              (unsigned long long)(seeds + i), edition, f.kind, f.number);
+        *(list == 74 ? &same : &misread) += 1;
+        damage_edition(&r, l.record);
+        CHECK(names(audit_by(&l, NEWEST, seeds + i), SECOND_RECORD, 0),
+              "seed %llu: no edition, and no fault of the record",
+              (unsigned long long)(seeds + i));
+        f = audit_by(&l, 1 + i % 3, seeds + i);
+        CHECK(edition == 1 || list == 74 ? f.kind == SECOND_SOUND
+                                         : names_stack(f, list),
+              "seed %llu: edition %u by older rules: %u %u",
+              (unsigned long long)(seeds + i), edition, f.kind, f.number);
+        give_back(&l);
+    }
+    remark(", %llu misread, %llu without a mixed link",
+           (unsigned long long)misread, (unsigned long long)same);
+    CHECK(misread > 0 && same > 0, "one of the two was never met");
 }
 
 /* One rule broken in a heap that is otherwise in order. */
@@ -346,11 +477,14 @@ static void any_bytes(uint32_t rounds)
         random_bytes(&r, l.record, l.record_len);
         if (random_chance(&r, 50))
             l.record_len = random_chance(&r, 10)
-                ? 1572 : random_below(&r, PLAIN_RECORD_BYTES + 1);
+                ? 1572 + 8 * random_below(&r, 2)
+                : random_below(&r, PLAIN_RECORD_BYTES + 1);
         bool shaped = l.length >= 32 && l.length % 16 == 0
             && l.record_len == PLAIN_RECORD_BYTES;
         if (shaped && random_chance(&r, 70))
             plain_put_word(l.record, 0, (uint32_t)l.length);
+        if (random_chance(&r, 80))
+            plain_put_edition(l.record, random_edition(&r));
         struct second_fault f = audit_checked(&l, seed);
         CHECK((f.no == 1) == !shaped, "seed %llu: shape judged %u",
               (unsigned long long)seed, f.no);
@@ -386,6 +520,8 @@ int main(int argc, char **argv)
     wrong_keys(12000 / share);
     wrong_skips(12000 / share);
     skips_in_order(3000 / share);
+    wrong_links(6000 / share);
+    wrong_editions(6000 / share);
     calls_on_unsound(40000 / share);
     any_bytes(40000 / share);
     return finish();

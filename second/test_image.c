@@ -1,8 +1,9 @@
 /*
  * Images: the bytes of small ones, each refusal and the order of them, round
- * trips of random heaps, of every version; and what heapimage prints of heaps,
- * sound ones and ones damaged by hand. Every expected byte, number and line
- * here was worked out by hand from the documents.
+ * trips of random heaps, of every version and in both editions; and what
+ * heapimage prints of heaps, sound ones and ones damaged by hand. Every
+ * expected byte, number and line here was worked out by hand from the
+ * documents.
  */
 #include <stdlib.h>
 #include <string.h>
@@ -15,12 +16,15 @@
 #include "traces.h"
 
 #define HEADER 9u
-#define NEWEST 3u /* of the versions; this one is written */
+#define NEWEST 4u /* of the versions; this one is written */
 
-/* Where the arena begins in an image; one of version 1 has no key. */
+/*
+ * Where the arena begins in an image; one of version 1 has no key, and one
+ * older than 4 no edition.
+ */
 static size_t arena_in(unsigned version)
 {
-    return version == 1 ? 1581 : 1589;
+    return version == 1 ? 1581 : version <= 3 ? 1589 : 1593;
 }
 
 /* Bytes lent to the calls: exactly that many, so that a sanitizer sees. */
@@ -89,6 +93,8 @@ static uint8_t opened_record_byte(unsigned i)
     unsigned word = i / 4;
     if (word == 0)
         return i == 0 ? 32 : 0;
+    if (i >= 1580)
+        return i == 1580 ? (uint8_t)edition : 0;
     if (i >= 1572)
         return (uint8_t)(KEY >> 8 * (i - 1572));
     return word == 1 || (word >= 67 && word < 131) ? 0 : 0xff;
@@ -96,17 +102,17 @@ static uint8_t opened_record_byte(unsigned i)
 
 static void smallest_image(void)
 {
-    static const uint8_t header[HEADER] = { 0x48, 0x50, 0x49, 3, 0,
+    static const uint8_t header[HEADER] = { 0x48, 0x50, 0x49, 4, 0,
                                             32,   0,    0,    0 };
 
     group("image: every byte of a newly opened arena of 32 bytes");
     start(32);
     struct bytes file = image_of(&heap);
-    CHECK(file.length == 1621, "the image has %zu bytes", file.length);
+    CHECK(file.length == 1625, "the image has %zu bytes", file.length);
     for (unsigned i = 0; i < file.length; i++) {
-        unsigned at = i - 1589; /* in the arena, filled with 0xa5 */
+        unsigned at = i - 1593; /* in the arena, filled with 0xa5 */
         uint8_t expected = i < HEADER ? header[i]
-            : i < 1589                ? opened_record_byte(i - HEADER)
+            : i < 1593                ? opened_record_byte(i - HEADER)
             : at == 8                 ? 33
             : at > 8 && at < 16       ? 0
                                       : 0xa5;
@@ -136,11 +142,11 @@ static void larger_images(void)
         random_bytes(&r, l.arena, l.length);
         random_bytes(&r, l.record, l.record_len);
         struct bytes file = image_of(&l);
-        CHECK(memcmp(file.at, "HPI\3\0", 5) == 0, "another mark or version");
+        CHECK(memcmp(file.at, "HPI\4\0", 5) == 0, "another mark or version");
         CHECK(memcmp(file.at + 5, arena[i].field, 4) == 0,
               "another length field for %u", arena[i].length);
-        CHECK(memcmp(file.at + 9, l.record, 1580) == 0
-                  && memcmp(file.at + 1589, l.arena, l.length) == 0,
+        CHECK(memcmp(file.at + 9, l.record, 1584) == 0
+                  && memcmp(file.at + 1593, l.arena, l.length) == 0,
               "record or arena stand elsewhere in an image of %u",
               arena[i].length);
         free(file.at);
@@ -172,27 +178,29 @@ static void refused_writes(void)
     static const size_t bad[] = { 0, 1, 15, 16, 17, 31, 33, 40, 100, 262143,
                                   262145, 262152, 262160, 524288 };
     static const size_t good[] = { 32, 48, 256, 4096, 262144 };
-    static const int off[] = { -16, -8, -1, 1, 8, 16, -1589, -1580, -32, -9, 9,
+    static const int off[] = { -16, -8, -1, 1, 8, 16, -1593, -1584, -32, -9, 9,
                                32 };
 
     group("image: writing is refused with 1 for a length, and writes nothing");
     for (unsigned i = 0; i < sizeof bad / sizeof bad[0]; i++)
-        refuses_writing(bad[i], 1580, 1589 + bad[i]);
+        refuses_writing(bad[i], 1584, 1593 + bad[i]);
     for (unsigned i = 0; i < sizeof good / sizeof good[0]; i++) {
-        size_t full = 1589 + good[i];
+        size_t full = 1593 + good[i];
         for (unsigned k = 0; k < sizeof off / sizeof off[0]; k++)
-            refuses_writing(good[i], 1580, full + (size_t)off[k]);
+            refuses_writing(good[i], 1584, full + (size_t)off[k]);
         for (unsigned k = 0; k < 6; k++)
-            refuses_writing(good[i], 1580 + (size_t)off[k], full);
-        refuses_writing(good[i], 1579, full - 1);
-        refuses_writing(good[i], 1584, full + 4);
-        refuses_writing(good[i], 1572, full - 8); /* as it was before */
+            refuses_writing(good[i], 1584 + (size_t)off[k], full);
+        refuses_writing(good[i], 1583, full - 1);
+        refuses_writing(good[i], 1588, full + 4);
+        refuses_writing(good[i], 1580, full - 4); /* as it was before, */
+        refuses_writing(good[i], 1572, full - 12); /* and before that */
+        refuses_writing(good[i], 1584, full - 4);
         refuses_writing(good[i], 0, 9 + good[i]);
-        refuses_writing(good[i], 1580, 0);
+        refuses_writing(good[i], 1584, 0);
     }
-    for (size_t file_len = 0; file_len < 1621 + 33; file_len++)
-        if (file_len != 1621)
-            refuses_writing(32, 1580, file_len);
+    for (size_t file_len = 0; file_len < 1625 + 33; file_len++)
+        if (file_len != 1625)
+            refuses_writing(32, 1584, file_len);
 }
 
 /* Reads a file into buffers of those lengths, which must be refused so. */
@@ -234,9 +242,9 @@ static struct bytes good_file(unsigned version, uint32_t length)
 static void reads(const uint8_t *bytes, size_t file_len, size_t length)
 {
     struct bytes file = copy_of(bytes, file_len);
-    struct bytes arena = filled(length, 1), record = filled(1580, 2);
+    struct bytes arena = filled(length, 1), record = filled(1584, 2);
     struct second_fault f = second_read_image(file.at, file_len, arena.at,
-                                              length, record.at, 1580);
+                                              length, record.at, 1584);
     CHECK(f.no == 0 && f.kind == SECOND_SOUND && f.number == 0,
           "a file of %zu bytes is answered %u %u %u, not 0 0 0", file_len, f.no,
           f.kind, f.number);
@@ -247,7 +255,7 @@ static void reads(const uint8_t *bytes, size_t file_len, size_t length)
     free(record.at);
 }
 
-/* Versions 2 and 3 have the same length; 0 is no refusal then. */
+/* Versions 2 and 3 have the same length: 0 is no refusal then. */
 static uint32_t damaged_no(unsigned i, const uint8_t *file, unsigned was)
 {
     if (i < 3)
@@ -270,7 +278,7 @@ static void damaged_headers(unsigned version)
                 if (no == 0)
                     reads(file.at, file.length, length);
                 else
-                    refuses_reading(file.at, file.length, length, 1580, no);
+                    refuses_reading(file.at, file.length, length, 1584, no);
             }
             file.at[i] = right;
         }
@@ -284,13 +292,13 @@ static void short_files(unsigned version)
     struct bytes file = good_file(version, 32);
     for (size_t length = 0; length <= file.length + 64; length++) {
         if (length != file.length)
-            refuses_reading(file.at, length, 32, 1580, length < 5 ? 6 : 1);
+            refuses_reading(file.at, length, 32, 1584, length < 5 ? 6 : 1);
         file.at[4] = 1;
-        refuses_reading(file.at, length, 32, 1580, length < 5 ? 6 : 7);
+        refuses_reading(file.at, length, 32, 1584, length < 5 ? 6 : 7);
         file.at[2] = 'i';
-        refuses_reading(file.at, length, 32, 1580, 6);
+        refuses_reading(file.at, length, 32, 1584, 6);
         file.at[4] = 0;
-        refuses_reading(file.at, length, 32, 1580, 6);
+        refuses_reading(file.at, length, 32, 1584, 6);
         file.at[2] = 'I';
     }
     free(file.at);
@@ -304,26 +312,27 @@ static void put_length(struct bytes *file, uint32_t length)
 /* The file, its field and each lent buffer, one of them off or several. */
 static void wrong_lengths(unsigned version)
 {
-    static const int off[] = { 0, -16, -8, -1, 1, 8, 16 };
+    static const int off[] = { 0, -16, -8, -4, -1, 1, 4, 8, 16 };
     struct bytes file = good_file(version, 256);
 
-    for (unsigned i = 1; i < 7 * 7 * 7 * 7; i++) {
-        int file_off = off[i % 7], field_off = off[i / 7 % 7];
-        int arena_off = off[i / 49 % 7], record_off = off[i / 343];
+    for (unsigned i = 1; i < 9 * 9 * 9 * 9; i++) {
+        int file_off = off[i % 9], field_off = off[i / 9 % 9];
+        int arena_off = off[i / 81 % 9], record_off = off[i / 729];
         bool agree = file_off == field_off && field_off == arena_off
             && record_off == 0 && file_off % 16 == 0;
         if (agree)
             continue;
         put_length(&file, 256 + (uint32_t)field_off);
         refuses_reading(file.at, file.length + (size_t)file_off,
-                        256 + (size_t)arena_off, 1580 + (size_t)record_off, 1);
+                        256 + (size_t)arena_off, 1584 + (size_t)record_off, 1);
     }
     put_length(&file, 256);
-    refuses_reading(file.at, file.length, 0, 1580, 1);
+    refuses_reading(file.at, file.length, 0, 1584, 1);
     refuses_reading(file.at, file.length, 256, 0, 1);
     refuses_reading(file.at, file.length, 256, 1572, 1);
-    refuses_reading(file.at, file.length, 256, 1584, 1);
-    refuses_reading(file.at, file.length, 262144, 1580, 1);
+    refuses_reading(file.at, file.length, 256, 1580, 1);
+    refuses_reading(file.at, file.length, 256, 1588, 1);
+    refuses_reading(file.at, file.length, 262144, 1584, 1);
     free(file.at);
 }
 
@@ -338,9 +347,11 @@ static void no_arena_lengths(unsigned version)
         0x00100020, 0x20000000, 0x00200000, 0x01000020,
         0u - 1581,      /* the whole file wraps to 0 in 32 bits, */
         0u - 1589,
+        0u - 1593,
         0u - 1581 + 32, /* to 32, */
         0u - 1589 + 32,
-        0u - 1568       /* to 13 or 21 */
+        0u - 1593 + 32,
+        0u - 1568       /* to 13, 21 or 25 */
     };
     struct bytes file = good_file(version, 32);
     size_t at = arena_in(version);
@@ -349,37 +360,37 @@ static void no_arena_lengths(unsigned version)
         struct bytes whole = filled(at + none[i], 0);
         memcpy(whole.at, file.at, at);
         put_length(&whole, none[i]);
-        refuses_reading(whole.at, whole.length, none[i], 1580, 1);
-        refuses_reading(whole.at, whole.length, 32, 1580, 1);
+        refuses_reading(whole.at, whole.length, none[i], 1584, 1);
+        refuses_reading(whole.at, whole.length, 32, 1584, 1);
         free(whole.at);
     }
     for (unsigned i = 0; i < sizeof huge / sizeof huge[0]; i++) {
         put_length(&file, huge[i]);
         for (size_t length = 5; length <= file.length; length += 4)
-            refuses_reading(file.at, length, 32, 1580, 1);
-        refuses_reading(file.at, file.length, 0, 1580, 1);
-        refuses_reading(file.at, file.length, 262144, 1580, 1);
+            refuses_reading(file.at, length, 32, 1584, 1);
+        refuses_reading(file.at, file.length, 0, 1584, 1);
+        refuses_reading(file.at, file.length, 262144, 1584, 1);
     }
     free(file.at);
 }
 
-/* In files of either length. */
+/* In files of every length. */
 static void unknown_versions(unsigned as)
 {
-    static const uint32_t version[] = { 0, 4, 5, 255, 256, 257, 258, 259, 512,
-                                        513, 768, 32768, 32769, 32771, 65280,
-                                        65283, 65535 };
+    static const uint32_t version[] = { 0, 5, 6, 255, 256, 257, 258, 259, 260,
+                                        512, 513, 768, 1024, 32768, 32769,
+                                        32772, 65280, 65284, 65535 };
     struct bytes file = good_file(as, 32);
 
     for (unsigned i = 0; i < sizeof version / sizeof version[0]; i++) {
         plain_put(file.at + 3, 2, version[i]);
         put_length(&file, 32);
-        refuses_reading(file.at, file.length, 32, 1580, 7);
-        refuses_reading(file.at, file.length + 1, 32, 1580, 7);
+        refuses_reading(file.at, file.length, 32, 1584, 7);
+        refuses_reading(file.at, file.length + 1, 32, 1584, 7);
         refuses_reading(file.at, file.length, 48, 1572, 7);
         put_length(&file, 0xffffffff);
         for (size_t length = 5; length < 12; length++)
-            refuses_reading(file.at, length, 32, 1580, 7);
+            refuses_reading(file.at, length, 32, 1584, 7);
     }
     free(file.at);
 }
@@ -394,13 +405,13 @@ static void order_of_refusals(unsigned version)
         file.at[0] = wrong & 1 ? 'h' : 'H';
         file.at[3] = wrong & 2 ? 9 : (uint8_t)version;
         put_length(&file, 64 - off);
-        refuses_reading(file.at, file.length, 64, 1580, no);
+        refuses_reading(file.at, file.length, 64, 1584, no);
         put_length(&file, 64);
-        refuses_reading(file.at, file.length - off, 64, 1580, no);
-        refuses_reading(file.at, file.length, 64 - off, 1580, no);
-        refuses_reading(file.at, file.length, 64, 1580 + off, no);
+        refuses_reading(file.at, file.length - off, 64, 1584, no);
+        refuses_reading(file.at, file.length, 64 - off, 1584, no);
+        refuses_reading(file.at, file.length, 64, 1584 + off, no);
         for (size_t length = 0; length < 5; length++)
-            refuses_reading(file.at, length, 64, 1580, 6);
+            refuses_reading(file.at, length, 64, 1584, 6);
     }
     free(file.at);
 }
@@ -517,12 +528,16 @@ static void old_sound_images(const char *name, unsigned version,
     for (uint64_t i = 1; i <= rounds && !group_failed(); i++) {
         struct random r = { (1u << 27) + i };
         struct lent l = random_lent(&r);
+        plain_to_edition(l.arena, l.record, 1);
         if (version == 1 && i % 2 == 0)
             damage_key(&r, l.arena, l.record);
         if (version == 1 && i % 3 == 0)
             plain_put_key(l.record, random_key(&r));
-        for (uint32_t times = random_below(&r, 6); times > 0; times--)
+        for (uint32_t times = version < 3 ? random_below(&r, 6) : 0; times > 0;
+             times--)
             damage_skip(&r, l.arena, l.record);
+        if (i % 4 == 0)
+            damage_edition(&r, l.record); /* which the file does not have */
         lacking += !lent_sound(&l);
         CHECK(old_trip(&l, version, i).kind == SECOND_SOUND,
               "seed %llu: a sound heap of version %u is not answered so",
@@ -531,7 +546,7 @@ static void old_sound_images(const char *name, unsigned version,
     }
     remark(", %llu of them not sound by today's rules",
            (unsigned long long)lacking);
-    CHECK(lacking > rounds / 10, "only %llu have wrong keys or skip links",
+    CHECK(lacking > rounds / 10, "only %llu lack something",
           (unsigned long long)lacking);
 }
 
@@ -543,6 +558,8 @@ static void damaged_images(const char *name, unsigned version, uint32_t rounds)
     for (uint64_t i = 1; i <= rounds && !group_failed(); i++) {
         struct random r = { (1u << 26) + i };
         struct lent l = random_lent(&r);
+        if (version < NEWEST)
+            plain_to_edition(l.arena, l.record, 1);
         (i % 2 == 0 ? damage_field : damage_bytes)(
             &r, l.arena, (uint32_t)l.length, l.record);
         kinds[(version < NEWEST ? old_trip(&l, version, i)
@@ -591,8 +608,10 @@ static void read_any(const struct bytes *file, const struct bytes *arena,
           "seed %llu: other bytes were read", (unsigned long long)seed);
     CHECK(version > 1 || plain_key(record->at) == 0,
           "seed %llu: another key than 0", (unsigned long long)seed);
+    CHECK(version > 3 || plain_edition(record->at) == 1,
+          "seed %llu: another edition than 1", (unsigned long long)seed);
     CHECK(same_fault(f, oracle_audit(arena->at, arena->length, record->at,
-                                     1580, version)),
+                                     1584, version)),
           "seed %llu: another audit", (unsigned long long)seed);
 }
 
@@ -606,10 +625,10 @@ static void any_files(uint32_t rounds)
         struct bytes file = random_file(&r);
         size_t at = arena_in(file.length > 3 ? file.at[3] : NEWEST);
         size_t length = file.length < at ? 32 : file.length - at;
-        struct bytes arena = filled(length, 1), record = filled(1580, 2);
+        struct bytes arena = filled(length, 1), record = filled(1584, 2);
         struct second_fault f =
             second_read_image(file.at, file.length, arena.at, length,
-                              record.at, 1580);
+                              record.at, 1584);
         if (CHECK(f.no == 0 || f.no == 1 || f.no == 6 || f.no == 7,
                   "seed %llu: answered %u", (unsigned long long)seed, f.no))
             refused[f.no]++;
@@ -635,7 +654,8 @@ static void any_files(uint32_t rounds)
 /* ---- what heapimage prints ---- */
 
 /* What is printed of a file, as text; for messages too. */
-static const char *printed(const uint8_t *bytes, size_t length)
+static const char *printed(const uint8_t *bytes, size_t length,
+                           bool with_edition)
 {
     static char text[1 << 19];
     FILE *out = tmpfile();
@@ -644,18 +664,41 @@ static const char *printed(const uint8_t *bytes, size_t length)
         fputs("no temporary file for what is printed; see TMPDIR\n", stderr);
         exit(2);
     }
-    second_show_image(out, bytes, length);
+    second_show_image(out, bytes, length, with_edition);
     rewind(out);
     text[fread(text, 1, sizeof text - 1, out)] = '\0';
     fclose(out);
     return text;
 }
 
+/*
+ * The lines expected without the edition, with it: behind the first of them,
+ * unless that is a refusal.
+ */
+static const char *edition_told(const uint8_t *bytes, const char *expected)
+{
+    static char text[8192];
+    int first = (int)strcspn(expected, "\n") + 1;
+
+    if (expected[0] == '?')
+        return expected;
+    snprintf(text, sizeof text, "%.*sedition %llu\n%s", first, expected,
+             bytes[3] < 4 ? 1
+                          : (unsigned long long)plain_get(bytes + 9 + 1580, 4),
+             expected + first);
+    return text;
+}
+
+/* Without the edition and with it. */
 static void shows_bytes(const uint8_t *bytes, size_t length,
                         const char *expected)
 {
-    const char *text = printed(bytes, length);
+    const char *text = printed(bytes, length, false);
     CHECK(strcmp(text, expected) == 0, "printed '%s', not '%s'", text,
+          expected);
+    expected = edition_told(bytes, expected);
+    text = printed(bytes, length, true);
+    CHECK(strcmp(text, expected) == 0, "with -v printed '%s', not '%s'", text,
           expected);
 }
 
@@ -725,16 +768,17 @@ static void prints_refusals(unsigned version)
     shows_bytes(file.at, 5, "? 1\n");
     shows_bytes(file.at, 1581, "? 1\n");
     shows_bytes(file.at, 1589, "? 1\n");
-    shows_bytes(file.at, file.length - 1, "? 1\n");
-    shows_bytes(file.at, file.length + 1, "? 1\n");
-    shows_bytes(file.at, file.length - 8, "? 1\n");
-    shows_bytes(file.at, file.length + 8, "? 1\n");
+    shows_bytes(file.at, 1593, "? 1\n");
+    for (unsigned off = 1; off <= 16; off *= 2) {
+        shows_bytes(file.at, file.length - off, "? 1\n");
+        shows_bytes(file.at, file.length + off, "? 1\n");
+    }
     snprintf(expected, sizeof expected, "image %u 64\nsound\n0 64 top\n",
              version);
     shows_bytes(file.at, file.length, expected);
     file.at[3] = version == 1 ? 2 : 1; /* another length is then right */
     shows_bytes(file.at, file.length, "? 1\n");
-    file.at[3] = 4;
+    file.at[3] = 5;
     shows_bytes(file.at, file.length, "? 7\n");
     shows_bytes(file.at, 5, "? 7\n");
     shows_bytes(file.at, 4, "? 6\n");
@@ -744,7 +788,7 @@ static void prints_refusals(unsigned version)
     /* More bytes than such an image has: 6 and 7 still come before 1. */
     struct bytes whole = filled(at + 262144 + 9, 0);
     shows_bytes(whole.at, whole.length, "? 6\n");
-    memcpy(whole.at, "HPI\4\0\0\0\4\0", 9);
+    memcpy(whole.at, "HPI\5\0\0\0\4\0", 9);
     shows_bytes(whole.at, whole.length, "? 7\n");
     whole.at[3] = (uint8_t)version;
     for (size_t more = 1; more <= 9; more++)
@@ -753,6 +797,10 @@ static void prints_refusals(unsigned version)
              version);
     shows_bytes(whole.at, at + 262144, expected);
     plain_put(whole.at + 9, 4, 262144);
+    if (version >= 4)
+        shows_bytes(whole.at, at + 262144, expected); /* its edition is 0 */
+    if (version >= 4)
+        plain_put(whole.at + 9 + 1580, 4, edition);
     snprintf(expected, sizeof expected, "image %u 262144\nfault tile 0\n",
              version);
     shows_bytes(whole.at, at + 262144, expected);
@@ -1111,11 +1159,11 @@ static void wrong_skips_in(uint32_t c, const char *fault, const char *tiles)
             plain_put(heap.arena + c + word, 8, bad[i]);
             shows_by(1, "sound", tiles);
             shows_by(2, "sound", tiles);
-            shows_by(3, fault, tiles);
+            shows_since(3, fault, tiles);
         }
         plain_put(heap.arena + c + word, 8,
                   right == PLAIN_NONE64 ? c : PLAIN_NONE64);
-        shows_by(3, fault, tiles);
+        shows_since(3, fault, tiles);
         plain_put(heap.arena + c + word, 8, right);
     }
     shows("sound", tiles);
@@ -1137,12 +1185,12 @@ static void wrong_skips(void)
     put_skips(3280, 0, 0); /* before the flags, behind bin 64 */
     plain_put(heap.arena + 2160 + 8, 8, 33);
     shows_by(2, "fault flag 2160", as_built());
-    shows_by(3, "fault bin 65", as_built());
+    shows_since(3, "fault bin 65", as_built());
     put_word(plain_bin_last(64), 0);
     shows("fault bin 64", as_built());
     put_skips(1088, 1, 1); /* and with its last right */
     put_word(plain_bin_last(64), 2192);
-    shows_by(3, "fault bin 64", as_built());
+    shows_since(3, "fault bin 64", as_built());
     stop();
 
     start_bins(); /* in unsorted */
@@ -1180,7 +1228,7 @@ static bool skips_read(const struct lent *l, uint32_t c, uint64_t forward,
 static void old_rings_with(unsigned version, bool unsorted)
 {
     uint64_t alone = unsorted ? PLAIN_NONE64 : 3280;
-    bool old = version < NEWEST;
+    bool old = version < 3;
     struct lent back = read_unskipped(version);
 
     CHECK(!old || (skips_read(&back, 1088, 0, 0)
@@ -1190,7 +1238,8 @@ static void old_rings_with(unsigned version, bool unsorted)
           "version %u: other skip links are read", version);
     CHECK(lent_sound(&back) == old, "version %u: a heap without skip links",
           version);
-    CHECK(old || same_arena(&heap, &back), "version 3 is read otherwise");
+    CHECK(old || same_arena(&heap, &back), "version %u is read otherwise",
+          version);
     give_back(&back);
 
     plain_put(heap.arena + 2160 + 8, 8, 33); /* a flag, so it is not sound */
@@ -1211,6 +1260,110 @@ static void old_rings(unsigned version)
     releases(3296);
     bin_is(1, 3280, 3280);
     old_rings_with(version, true);
+    stop();
+}
+
+/* ---- editions ---- */
+
+/* A version 4 image with any number there is read, and the number stays. */
+static void edition_in_image(void)
+{
+    static const uint32_t number[] = { 0, 1, 2, 3, 256, 257, 65538, 0x01000000,
+                                       0x80000001, 0x80000002, PLAIN_NONE32 };
+
+    group("image: another edition is read as it is, with the record's fault");
+    for (unsigned i = 0; i < sizeof number / sizeof number[0]; i++) {
+        start(64);
+        plain_put_edition(heap.record, number[i]);
+        struct bytes file = image_of(&heap);
+        struct lent back = lend(64, 0xb7);
+        struct second_fault f =
+            second_read_image(file.at, file.length, back.arena, back.length,
+                              back.record, back.record_len);
+        bool good = number[i] == 1 || number[i] == 2;
+        CHECK(f.no == 0 && f.number == 0
+                  && f.kind == (good ? SECOND_SOUND : SECOND_RECORD),
+              "edition %u is answered %u %u %u", number[i], f.no, f.kind,
+              f.number);
+        CHECK(same_arena(&heap, &back) && same_record(&heap, &back),
+              "edition %u is not read as it is", number[i]);
+        shows_by(4, good ? "sound" : "fault record", good ? "0 64 top\n" : "");
+        for (unsigned version = 1; version <= 3; version++)
+            shows_by(version, "sound", "0 64 top\n"); /* the file has none */
+        give_back(&back);
+        free(file.at);
+        stop();
+    }
+}
+
+/*
+ * Eight chunks of 32 behind a block of 8,160 released: the cache list is 8352,
+ * 8320, .. 8160, the eighth, 8384, is fast. Links are mixed with 2, that of
+ * 8160 with 1.
+ */
+static void start_mixed_stacks(void)
+{
+    start(16384);
+    grants(8152, 16, 8152);
+    for (uint32_t i = 0; i < 8; i++)
+        grants(24, 8176 + 32 * i, 24);
+    for (uint32_t i = 0; i < 8; i++)
+        releases(8176 + 32 * i);
+}
+
+/* The tiles, the cached ones from the head on up to one. */
+static const char *mixed_tiles(uint32_t last)
+{
+    static char text[512];
+    int used = snprintf(text, sizeof text, "0 8160 live\n");
+
+    for (uint32_t c = 8160; c < 8384; c += 32)
+        used += snprintf(text + used, sizeof text - (size_t)used, "%u 32 %s\n",
+                         c, c >= last ? "cache 0" : "live");
+    snprintf(text + used, sizeof text - (size_t)used,
+             "8384 32 fast 0\n8416 7968 top\n");
+    return text;
+}
+
+/* Stored so at 8256; in edition 1 the first is right, in 2 the second. */
+static void mixed_in_the_middle(uint64_t stored, uint32_t right_in)
+{
+    put_link(8256, stored);
+    shows_by(4, edition == right_in ? "sound" : "fault cache 0",
+             mixed_tiles(edition == right_in ? 8160 : 8256));
+}
+
+static void mixed_stacks(void)
+{
+    group("heapimage: mixed links, right and stored otherwise");
+    start_mixed_stacks();
+    shows_by(4, "sound", mixed_tiles(8160));
+    /* older images have no mixed links: behind each head there is no chunk */
+    for (unsigned version = 1; version <= 3; version++)
+        shows_by(version, edition == 1 ? "sound" : "fault cache 0",
+                 mixed_tiles(edition == 1 ? 8160 : 8352));
+    mixed_in_the_middle(8224, 1);
+    mixed_in_the_middle(8226, 2);
+    mixed_in_the_middle(8225, 3);
+    mixed_in_the_middle(8224 ^ 8256, 3);
+    mixed_in_the_middle(PLAIN_NONE64, 3);
+    mixed_in_the_middle(PLAIN_NONE64 - 2, 3);
+    put_link(8256, edition == 2 ? 8226 : 8224);
+    put_link(8160, PLAIN_NONE64);
+    shows_by(4, edition == 1 ? "sound" : "fault cache 0", mixed_tiles(8160));
+    put_link(8160, PLAIN_NONE64 - 1);
+    shows_by(4, edition == 2 ? "sound" : "fault cache 0", mixed_tiles(8160));
+    put_link(8160, PLAIN_NONE64 - 2);
+    shows_by(4, "fault cache 0", mixed_tiles(8160));
+    put_link(8160, edition == 2 ? PLAIN_NONE64 - 1 : PLAIN_NONE64);
+    put_link(8384, edition == 2 ? PLAIN_NONE64 : PLAIN_NONE64 - 2);
+    shows_by(4, "fault fast 0", mixed_tiles(8160));
+    put_link(8384, edition == 2 ? PLAIN_NONE64 - 2 : PLAIN_NONE64);
+    shows_by(4, "sound", mixed_tiles(8160));
+    plain_put_edition(heap.record, 3 - edition);
+    shows_by(4, "fault cache 0", mixed_tiles(8352));
+    plain_put_edition(heap.record, 3);
+    shows_by(4, "fault record", "");
     stop();
 }
 
@@ -1378,12 +1531,15 @@ static struct lent random_harmed(struct random *r)
     flawed_heap(r, random_chance(r, 60) ? FLAW_NONE
                                         : 1 + random_below(r, FLAW_COUNT - 1),
                 l.arena, length, l.record);
-    switch (random_below(r, 8)) {
+    switch (random_below(r, 9)) {
     case 0: break;
     case 1: damage_bytes(r, l.arena, length, l.record); break;
     case 2: damage_field(r, l.arena, length, l.record); break;
     case 3: plain_put_key(l.record, random_key(r)); break;
     case 4: damage_skip(r, l.arena, l.record); break;
+    case 5:
+        plain_put_edition(l.record, random_edition(r));
+        break;
     default: damage_lists(r, l.arena, length, l.record);
     }
     return l;
@@ -1397,7 +1553,10 @@ static void random_states(uint32_t rounds)
     for (uint64_t seed = 1; seed <= rounds && !group_failed(); seed++) {
         struct random r = { seed << 24 };
         struct lent l = random_harmed(&r);
-        unsigned version = 1 + random_below(&r, NEWEST);
+        unsigned version = random_chance(&r, 60)
+            ? NEWEST : 1 + random_below(&r, NEWEST - 1);
+        if (version < NEWEST)
+            plain_put_edition(l.record, 1);
         struct second_fault f = lent_audit_by(&l, version);
         if (f.kind != SECOND_RECORD && f.kind != SECOND_TILE) {
             uint32_t tiles = second_tiles(l.arena, (uint32_t)l.length,
@@ -1423,10 +1582,8 @@ static void random_states(uint32_t rounds)
           (unsigned long long)sound, (unsigned long long)unsound);
 }
 
-int main(int argc, char **argv)
+static void traces(void)
 {
-    uint32_t share = share_of(argc, argv);
-
     smallest_image();
     larger_images();
     refused_writes();
@@ -1434,28 +1591,17 @@ int main(int argc, char **argv)
                     "refused, but 2 and 3 for each other", damaged_headers);
     of_each_version("image: every length but the whole file's is refused",
                     short_files);
-    of_each_version("image: lengths that are off by 1, by 8 and by 16 are "
+    of_each_version("image: lengths that are off by 1, 4, 8 and 16 are "
                     "refused with 1", wrong_lengths);
     of_each_version("image: length fields that no arena has are refused "
                     "with 1", no_arena_lengths);
-    of_each_version("image: versions other than 1, 2 and 3 are refused with "
-                    "7, before any length", unknown_versions);
+    of_each_version("image: versions other than 1 to 4 are refused with 7, "
+                    "before any length", unknown_versions);
     of_each_version("image: 6 comes before 7, and 7 before 1",
                     order_of_refusals);
-    sound_images(5000 / share);
-    old_sound_images("image: sound heaps of version 1 get the key 0 and skip "
-                     "links, and nothing else", 1, 5000 / share);
-    old_sound_images("image: sound heaps of version 2 get skip links, and "
-                     "nothing else", 2, 5000 / share);
     of_each_version("image: the skip links that a heap gets where it is read",
                     old_rings);
-    damaged_images("image: damaged heaps are read back as they were, with "
-                   "their fault", 3, 8000 / share);
-    damaged_images("image: damaged heaps of version 1 are copied, with their "
-                   "fault", 1, 8000 / share);
-    damaged_images("image: damaged heaps of version 2 are copied, with their "
-                   "fault", 2, 8000 / share);
-    any_files(40000 / share);
+    edition_in_image();
     of_each_version("heapimage: a refusal is one line", prints_refusals);
     stack_bad_links();
     stacks_that_cross();
@@ -1475,6 +1621,30 @@ int main(int argc, char **argv)
     other_faults();
     top_in_a_list();
     bin_figures();
+    mixed_stacks();
+}
+
+int main(int argc, char **argv)
+{
+    uint32_t share = share_of(argc, argv);
+
+    in_both_editions(traces);
+    sound_images(5000 / share);
+    old_sound_images("image: sound heaps of version 1 get the key 0, skip "
+                     "links and edition 1, and nothing else", 1, 5000 / share);
+    old_sound_images("image: sound heaps of version 2 get skip links and "
+                     "edition 1, and nothing else", 2, 5000 / share);
+    old_sound_images("image: sound heaps of version 3 get edition 1, and "
+                     "nothing else", 3, 5000 / share);
+    damaged_images("image: damaged heaps are read back as they were, with "
+                   "their fault", 4, 8000 / share);
+    damaged_images("image: damaged heaps of version 1 are copied, with their "
+                   "fault", 1, 8000 / share);
+    damaged_images("image: damaged heaps of version 2 are copied, with their "
+                   "fault", 2, 8000 / share);
+    damaged_images("image: damaged heaps of version 3 are copied, with their "
+                   "fault", 3, 8000 / share);
+    any_files(40000 / share);
     random_states(20000 / share);
     return finish();
 }

@@ -5,8 +5,8 @@
  * blocks were granted and what their holders wrote. A resize is also put
  * together from other calls on a copy, and every byte compared; what a release,
  * an emptying and a joining leave is told by the tiles before them. Each heap
- * has a random key; two of them, with different keys, answer alike. The skip
- * links are those that the lists and sizes tell.
+ * has a random key and edition; two of them, with different ones, answer alike.
+ * The skip links are those that the lists and sizes tell.
  */
 #include <stdio.h>
 #include <stdlib.h>
@@ -49,7 +49,7 @@ static struct plain_view view;     /* after the call */
 static struct plain_view expected; /* by tiles */
 
 /* What same_everywhere must come to; it moves only with the generator. */
-#define SAME_EVERYWHERE 0xf90ffa6702385ba2u
+#define SAME_EVERYWHERE 0x04fd3bd30bc2351bu
 
 #define EXPECT(m, good, text) \
     CHECK(good, "seed %llu, call %u: %s", (unsigned long long)(m)->seed, \
@@ -92,6 +92,13 @@ static void model_free(struct model *m)
     give_back(&m->parts);
     free(m->owned);
     free(m->block);
+}
+
+/* With a random key, in a random edition. */
+static struct second_answer open_anyhow(struct model *m)
+{
+    uint64_t key = random_key(&m->r);
+    return lent_open(&m->heap, key, random_edition(&m->r));
 }
 
 static void hold(struct model *m, uint32_t mem, uint32_t usable)
@@ -187,8 +194,8 @@ static void after_call(struct model *m, bool granted)
     if (group_failed())
         return;
     skips_are_told(m);
-    EXPECT(m, plain_key(m->heap.record) == plain_key(m->before.record),
-           "the record's key changed");
+    EXPECT(m, memcmp(m->heap.record + 1572, m->before.record + 1572, 12) == 0,
+           "the record's key or edition changed");
     bytes_unchanged(m, m->blocks - (granted ? 1 : 0));
     live_is_held(m);
 }
@@ -238,7 +245,8 @@ static void nothing_stays_cut_up(struct model *m)
     if (m->blocks > 0)
         return;
     struct lent fresh = lend(m->heap.length, 0);
-    lent_open(&fresh, plain_key(m->heap.record));
+    lent_open(&fresh, plain_key(m->heap.record),
+              plain_edition(m->heap.record));
     EXPECT(m, view.tiles == 1 && same_record(&m->heap, &fresh),
            "emptied and joined without blocks, but not as newly opened");
     give_back(&fresh);
@@ -388,7 +396,7 @@ static void audited_slowly(struct model *m)
     if (h->length > 2048 && !random_chance(&m->r, h->length > 8192 ? 2 : 20))
         return;
     struct second_fault f =
-        oracle_audit(h->arena, h->length, h->record, h->record_len, 3);
+        oracle_audit(h->arena, h->length, h->record, h->record_len, 4);
     EXPECT(m, f.no == 0 && f.kind == SECOND_SOUND,
            "not sound after a resize, says the slow audit");
 }
@@ -577,7 +585,8 @@ static void call_with_bad_shape(struct model *m)
         h->length -= 1 + random_below(&m->r, 15);
     else
         h->record_len = random_chance(&m->r, 30)
-            ? 1572 : random_below(&m->r, PLAIN_RECORD_BYTES);
+            ? 1572 + 8 * random_below(&m->r, 2)
+            : random_below(&m->r, PLAIN_RECORD_BYTES);
     uint32_t n = random_below(&m->r, 300000), drawn = random_below(&m->r, 4);
     struct second_answer a = drawn == 0 ? lent_grant(h, n)
         : drawn == 1                    ? lent_resize(h, random_mem(m), n)
@@ -683,8 +692,7 @@ static void sequences(const char *name, bool opened, uint32_t most,
         struct model m = model_new(seed + ((uint64_t)most << 32), most);
         if (opened) {
             random_bytes(&m.r, m.heap.arena, m.heap.length);
-            EXPECT(&m, lent_open(&m.heap, random_key(&m.r)).no == 0,
-                   "open refused");
+            EXPECT(&m, open_anyhow(&m).no == 0, "open refused");
         } else {
             random_heap(&m.r, m.heap.arena, (uint32_t)m.heap.length,
                         m.heap.record);
@@ -777,7 +785,7 @@ static void between_fast_chunks(uint32_t rounds)
         uint32_t length = 7 * (n + 32) + count * (2 * n + 96) + 64;
         struct model m = model_of_length(r, seed, (length + 15) & ~15u);
         random_bytes(&m.r, m.heap.arena, m.heap.length);
-        lent_open(&m.heap, random_key(&m.r));
+        open_anyhow(&m);
         grow_between_fast_chunks(&m, n, count);
         add_counts(&sum, &m);
         model_free(&m);
@@ -868,7 +876,7 @@ static void among_fast_chunks(uint32_t rounds)
         uint32_t length = 65536 + 16 * random_below(&r, 12289);
         struct model m = model_of_length(r, seed, length);
         random_bytes(&m.r, m.heap.arena, m.heap.length);
-        lent_open(&m.heap, random_key(&m.r));
+        open_anyhow(&m);
         if (random_chance(&m.r, 70))
             release_much(&m);
         else
@@ -928,7 +936,7 @@ static void among_equals(uint32_t rounds)
         uint32_t length = count * (n + 144) + 32 * random_below(&r, 100);
         struct model m = model_of_length(r, seed, (length + 79) & ~15u);
         random_bytes(&m.r, m.heap.arena, m.heap.length);
-        lent_open(&m.heap, random_key(&m.r));
+        open_anyhow(&m);
         groups_of_equals(&m, n, count);
         if (!group_failed())
             empty_and_join(&m);
@@ -938,7 +946,7 @@ static void among_equals(uint32_t rounds)
     tell_counts(&sum);
 }
 
-/* ---- answers depend neither on bytes that mean nothing nor on the key ---- */
+/* ---- answers depend on no byte that means nothing, key or edition ---- */
 
 /* What a call did to blocks; mem 0 is none. */
 struct change {
@@ -987,7 +995,7 @@ static struct change twin_call(struct model *a, struct model *b)
     EXPECT(a, left.no == right.no && left.mem == right.mem
                   && left.usable == right.usable,
            "twins answer differently");
-    EXPECT(a, same_but_key(&a->heap, &b->heap), "twins' records differ");
+    EXPECT(a, same_words(&a->heap, &b->heap), "twins' records differ");
     if (left.no == 0 && left.mem != 0)
         change.to = (struct held){ left.mem, left.usable };
     return change;
@@ -1004,8 +1012,8 @@ static void twins(uint32_t rounds)
         b.r.state += 12345;
         random_bytes(&a.r, a.heap.arena, a.heap.length);
         random_bytes(&b.r, b.heap.arena, b.heap.length);
-        lent_open(&a.heap, random_key(&a.r));
-        lent_open(&b.heap, random_key(&b.r));
+        open_anyhow(&a);
+        open_anyhow(&b);
         while (a.calls < 300 && !group_failed()) {
             struct held to = twin_call(&a, &b).to;
             random_bytes(&a.r, a.heap.arena + to.mem, to.usable);
@@ -1054,7 +1062,7 @@ static void written_is_same(struct model *a, const struct model *b)
     uint8_t differs = 0;
     for (size_t i = 0; i < a->heap.length; i++)
         differs |= (a->heap.arena[i] ^ b->heap.arena[i]) & written[i];
-    EXPECT(a, differs == 0, "with another key a written byte differs");
+    EXPECT(a, differs == 0, "a written byte of one twin differs");
 }
 
 /* From the same first bytes: only the keys of cached chunks ever differ. */
@@ -1084,8 +1092,9 @@ static void with_two_keys(struct model *a, struct model *b, bool same_bytes)
     if (same_bytes)
         copy_lent(&b->heap, &a->heap);
     memset(written, 0, sizeof written);
-    lent_open(&a->heap, key);
-    lent_open(&b->heap, key == other ? ~key : other);
+    uint32_t edition = random_edition(&a->r);
+    lent_open(&a->heap, key, edition);
+    lent_open(&b->heap, key == other ? ~key : other, edition);
     while (a->calls < 300 && !group_failed()) {
         struct change change = twin_call(a, b);
         follow_written(&change);
@@ -1111,6 +1120,90 @@ static void two_keys(uint32_t rounds)
         model_free(&b);
     }
     remark(", %llu calls", (unsigned long long)sum.calls);
+}
+
+/* ---- the same calls and writes in both editions ---- */
+
+/* Each stack is the same list; links that differ are mixed, and counted. */
+static uint64_t same_stacks(struct model *a, const struct model *b)
+{
+    uint64_t mixed = 0;
+    plain_read(&view, a->heap.arena, (uint32_t)a->heap.length, a->heap.record);
+    plain_read(&expected, b->heap.arena, (uint32_t)b->heap.length,
+               b->heap.record);
+    EXPECT(a, same_tiles(&view, &expected), "in edition 2 tiles differ");
+    for (uint32_t i = 0; i < view.tiles; i++) {
+        uint32_t c = view.tile[i].at;
+        if (view.tile[i].state != PLAIN_CACHED
+            && view.tile[i].state != PLAIN_FAST)
+            continue;
+        EXPECT(a, plain_link(a->heap.arena, 1, c)
+                      == plain_link(b->heap.arena, 2, c),
+               "in edition 2 a list leads elsewhere");
+        mixed += plain_get(a->heap.arena + c + 16, 8)
+            != plain_get(b->heap.arena + c + 16, 8);
+    }
+    return mixed;
+}
+
+/*
+ * From the same first bytes: what ever differs was the link of a stack, also
+ * where it is left over or was copied, and in the bits of a position.
+ */
+static void all_but_links_is_same(struct model *a, const struct model *b)
+{
+    uint64_t differs = 0;
+    for (size_t i = 0; i < a->heap.length; i += 8)
+        differs |= (plain_get(a->heap.arena + i, 8)
+                    ^ plain_get(b->heap.arena + i, 8))
+            & (i % 16 == 0 ? ~(uint64_t)63 : PLAIN_NONE64);
+    EXPECT(a, differs == 0, "in edition 2 another byte than a link's differs");
+}
+
+static uint64_t in_two_editions(struct model *a, struct model *b,
+                                bool same_bytes)
+{
+    uint64_t key = random_key(&a->r), mixed = 0;
+
+    random_bytes(&a->r, a->heap.arena, a->heap.length);
+    random_bytes(&b->r, b->heap.arena, b->heap.length);
+    if (same_bytes)
+        copy_lent(&b->heap, &a->heap);
+    memset(written, 0, sizeof written);
+    lent_open(&a->heap, key, 1);
+    lent_open(&b->heap, same_bytes ? key : random_key(&a->r), 2);
+    while (a->calls < 300 && !group_failed()) {
+        struct change change = twin_call(a, b);
+        follow_written(&change);
+        twin_writes(a, b);
+        EXPECT(a, lent_sound(&a->heap) && lent_sound(&b->heap),
+               "a twin is no longer sound");
+        written_is_same(a, b);
+        mixed += same_stacks(a, b);
+        if (same_bytes)
+            all_but_links_is_same(a, b);
+    }
+    return mixed;
+}
+
+static void two_editions(uint32_t rounds)
+{
+    struct sums sum = { 0 };
+    uint64_t mixed = 0;
+
+    group("both editions: the same answers, records but for it, lists, bytes");
+    for (uint64_t seed = 1; seed <= rounds && !group_failed(); seed++) {
+        uint64_t state = seed + (5u << 20);
+        struct model a = model_new(state, 65536), b = model_new(state, 65536);
+        b.r.state += 67890;
+        mixed += in_two_editions(&a, &b, seed % 2 == 0);
+        add_counts(&sum, &a);
+        model_free(&a);
+        model_free(&b);
+    }
+    remark(", %llu calls, %llu times a mixed link",
+           (unsigned long long)sum.calls, (unsigned long long)mixed);
+    CHECK(mixed > 0, "no link was ever mixed");
 }
 
 /* ---- the same on every machine ---- */
@@ -1172,5 +1265,6 @@ int main(int argc, char **argv)
     among_equals(1500 / share);
     twins(400 / share);
     two_keys(160 / share);
+    two_editions(160 / share);
     return finish();
 }

@@ -1,7 +1,8 @@
 /*
  * Request (i) of document 02: a trace for each way a resize can go, at and
- * beside its boundary, with what requests (vi), (viii) and (x) change of it.
- * Every expected number here was worked out by hand from the documents.
+ * beside its boundary, with what requests (vi), (viii) and (x) change of it, in
+ * both editions of request (xi). Every expected number here was worked out by
+ * hand from the documents.
  */
 #include <string.h>
 
@@ -158,7 +159,7 @@ static void large_enough(void)
     eight_is(8, 176 + 1);
     eight_is(176, tail); /* the rest's previous size is still the block's */
     eight_is(176 + 8, 32 + 1);
-    eight_is(176 + 16, PLAIN_NONE64);
+    link_is(176, PLAIN_NONE64);
     eight_is(208 + 8, 32 + 1);
     cache_is(0, 176, 1);
     second_is(176, KEY);
@@ -184,7 +185,7 @@ static void rest_on_a_fast_list(void)
     cache_is(0, 192, 7);
     fast_is(0, 400);
     eight_is(400 + 8, 32 + 1);
-    eight_is(400 + 16, PLAIN_NONE64);
+    link_is(400, PLAIN_NONE64);
     second_is(400, UNWRITTEN);
     eight_is(432 + 8, 32 + 1);
     stop();
@@ -570,7 +571,7 @@ static void right_behind_and_cached(void)
     bin_is(1, NONE, NONE);
     eight_is(7280 + 8, 1040 + 1);
     eight_is(7312 + 8, 1040 + 1); /* the header inside the block stays */
-    eight_is(7312 + 16, PLAIN_NONE64);
+    link_is(7312, PLAIN_NONE64);
     second_is(7312, 0);
     fast_is(0, 8320); /* the rest */
     eight_is(8320 + 8, 32 + 1);
@@ -592,7 +593,7 @@ static void copied(void)
     eight_is(80 + 8, 112 + 1);
     cache_is(1, 0, 1);
     eight_is(8, 48 + 1);
-    eight_is(16, PLAIN_NONE64); /* link and key; the other old bytes stay */
+    link_is(0, PLAIN_NONE64); /* link and key; the other old bytes stay */
     second_is(0, KEY);
     for (uint32_t i = 16; i < 40; i++)
         CHECK(heap.arena[16 + i] == (uint8_t)(i * 7 + 1),
@@ -683,9 +684,9 @@ static void step_2_past_the_cache(void)
     grants(40, 208, 40);
     resizes(688, 40, 640, 40);
     cache_is(1, 480, 7);
-    eight_is(480 + 16, 528);
-    eight_is(528 + 16, 576);
-    eight_is(576 + 16, 144);
+    link_is(480, 528);
+    link_is(528, 576);
+    link_is(576, 144);
     for (uint32_t c = 480; c <= 576; c += 48)
         second_is(c, KEY);
     second_is(144, KEY); /* cached all the time */
@@ -733,8 +734,8 @@ static void step_3_past_the_cache(void)
     start_fenced(14, 2, true);
     resizes(224, 200, fenced(7) + 16, 200);
     cache_is(11, fenced(9), 7);
-    eight_is(fenced(9) + 16, fenced(8));
-    eight_is(fenced(8) + 16, fenced(4));
+    link_is(fenced(9), fenced(8));
+    link_is(fenced(8), fenced(4));
     second_is(fenced(9), KEY);
     second_is(fenced(8), KEY);
     second_is(fenced(10), fenced(11));
@@ -757,8 +758,8 @@ static void step_5_past_the_cache(void)
     start_fenced(14, 2, false);
     resizes(224, 200, fenced(9) + 16, 200);
     cache_is(11, fenced(8), 7);
-    eight_is(fenced(8) + 16, fenced(7));
-    eight_is(fenced(7) + 16, fenced(4));
+    link_is(fenced(8), fenced(7));
+    link_is(fenced(7), fenced(4));
     second_is(fenced(8), KEY);
     second_is(fenced(7), KEY);
     second_is(fenced(10), fenced(11));
@@ -966,7 +967,66 @@ static void skips_of_an_old_block(void)
     stop();
 }
 
-int main(void)
+/* ---- document 02, (xi): mixed links ---- */
+
+/* A block up to 8160, then blocks of 48 and one of 32: as at the start. */
+static void start_mixed_fast(void)
+{
+    start(16384);
+    grants(8152, 16, 8152);
+    grants_row(14, 40, 8176, 48);
+    grants(24, 8848, 24); /* the block */
+    grants(24, 8880, 24);
+    fill(8848, 24);
+    releases_row(14, 8176, 48);
+    cache_is(1, 8448, 7);
+    fast_is(1, 8784);
+}
+
+static void mixed_past_the_cache(void)
+{
+    group("resize: mixed links where step 2 fills up a cache list");
+    start_mixed_fast();
+    eight_is(8496 + 16, edition == 2 ? PLAIN_NONE64 - 2 : PLAIN_NONE64);
+    eight_is(8160 + 16, edition == 2 ? PLAIN_NONE64 - 1 : PLAIN_NONE64);
+    grants(40, 8464, 40);
+    grants(40, 8416, 40);
+    grants(40, 8368, 40);
+    resizes(8848, 40, 8800, 40);
+    cache_is(1, 8640, 7);
+    eight_is(8640 + 16, edition == 2 ? 8690 : 8688);
+    eight_is(8688 + 16, edition == 2 ? 8738 : 8736);
+    eight_is(8736 + 16, edition == 2 ? 8306 : 8304);
+    filled(8800, 24);
+    fast_is(1, 8592);
+    eight_is(8592 + 16, edition == 2 ? 8546 : 8544);
+    cache_is(0, 8832, 1);
+    eight_is(8832 + 16, edition == 2 ? PLAIN_NONE64 - 2 : PLAIN_NONE64);
+    stop();
+}
+
+/* The old block is cached, and a rest that is cut off too. */
+static void mixed_and_copied(void)
+{
+    group("resize: mixed links of an old block and of a rest");
+    start(16384);
+    grants(4072, 16, 4072);
+    grants(40, 4096, 40); /* the chunk at 4080 */
+    grants(24, 4144, 24);
+    fill(4096, 40);
+    resizes(4096, 100, 4176, 104);
+    filled(4176, 40);
+    cache_is(1, 4080, 1);
+    eight_is(4080 + 16, edition == 2 ? PLAIN_NONE64 - 1 : PLAIN_NONE64);
+    second_is(4080, KEY);
+    resizes(4176, 56, 4176, 56); /* 112 less 64 */
+    filled(4176, 40);
+    cache_is(1, 4224, 2);
+    eight_is(4224 + 16, edition == 2 ? 4081 : 4080);
+    stop();
+}
+
+static void traces(void)
 {
     null_and_zero();
     refusals_in_order();
@@ -992,5 +1052,12 @@ int main(void)
     old_block_consolidates();
     skips_of_a_rest();
     skips_of_an_old_block();
+    mixed_past_the_cache();
+    mixed_and_copied();
+}
+
+int main(void)
+{
+    in_both_editions(traces);
     return finish();
 }

@@ -1,7 +1,8 @@
 /*
  * Document 01's figures, and traces for the places that are easy to get
- * wrong, with those of requests (vi), (vii), (viii) and (x) of document 02.
- * Every expected number here was worked out by hand from the documents.
+ * wrong, with those of requests (vi), (vii), (viii), (x) and (xi) of document
+ * 02, in both editions. Every expected number here was worked out by hand from
+ * the documents.
  */
 #include <string.h>
 
@@ -86,8 +87,8 @@ static void eight_released(void)
     cache_is(0, 192, 7);
     fast_is(0, 224);
     word_is("top", 1, 256);
-    eight_is(224 + 16, PLAIN_NONE64);
-    eight_is(192 + 16, 160);
+    link_is(224, PLAIN_NONE64);
+    link_is(192, 160);
     eight_is(256 + 8, 1024 - 256 + 1);
     grants(24, 208, 24);
     empties();
@@ -98,20 +99,21 @@ static void eight_released(void)
 
 /* ---- opening and shapes ---- */
 
-static void refused_open(size_t length, size_t record_len)
+static void refused_open(size_t length, size_t record_len, uint32_t with,
+                         uint32_t no)
 {
     struct lent bytes = lend(length, 0x5a), before = lend(length, 0x5a);
 
     bytes.record_len = record_len;
-    struct second_answer a = lent_open(&bytes, KEY);
-    CHECK(a.no == 1 && a.mem == 0 && a.usable == 0,
-          "open of %zu with a record of %zu answers %u", length, record_len,
-          a.no);
+    struct second_answer a = lent_open(&bytes, KEY, with);
+    CHECK(a.no == no && a.mem == 0 && a.usable == 0,
+          "open of %zu with a record of %zu and edition %u answers %u", length,
+          record_len, with, a.no);
     CHECK(same_arena(&bytes, &before), "a refused open wrote in the arena");
     if (record_len != PLAIN_RECORD_BYTES)
         CHECK(same_record(&bytes, &before), "a record of %zu bytes was written",
               record_len);
-    for (unsigned i = 0; record_len == PLAIN_RECORD_BYTES && i < 395; i++)
+    for (unsigned i = 0; record_len == PLAIN_RECORD_BYTES && i < 396; i++)
         CHECK(plain_word(bytes.record, i)
                   == (i == 0 || (i >= 67 && i < 131) || i >= 393 ? 0 : NONE),
               "word %u of a refused open's record", i);
@@ -128,6 +130,7 @@ static void opened(uint32_t length)
     }
     word_is("the key's low half", 393, 0xe8c4620a);
     word_is("the key's high half", 394, 0x9d3f5b17);
+    word_is("the edition", 395, edition);
     eight_is(8, length + 1);
     for (uint32_t i = 0; i < length; i++)
         CHECK(heap.arena[i] == 0xa5 || (i >= 8 && i < 16),
@@ -147,18 +150,19 @@ static void opens(void)
     }
     group("other shapes are refused, and leave what document 01 says");
     for (unsigned i = 0; i < sizeof bad / sizeof bad[0]; i++) {
-        refused_open(bad[i], 1580);
-        refused_open(bad[i], 1572);
+        refused_open(bad[i], 1584, edition, 1);
+        refused_open(bad[i], 1580, edition, 1);
+        refused_open(bad[i], 1572, edition, 1);
     }
-    for (size_t record_len = 1568; record_len <= 1592; record_len++)
-        if (record_len != 1580)
-            refused_open(256, record_len);
-    refused_open(256, 0);
+    for (size_t record_len = 1568; record_len <= 1600; record_len++)
+        if (record_len != 1584)
+            refused_open(256, record_len, edition, 1);
+    refused_open(256, 0, edition, 1);
 
     group("a closed record makes later calls answer 3");
     start(256);
-    CHECK(second_open(heap.arena, 255, heap.record, heap.record_len, KEY).no
-              == 1,
+    CHECK(second_open(heap.arena, 255, heap.record, heap.record_len, KEY,
+                      edition).no == 1,
           "an arena of 255 bytes was opened");
     CHECK(lent_audit(&heap).kind == SECOND_RECORD, "a closed record is sound");
     CHECK(lent_grant(&heap, 24).no == 3 && lent_release(&heap, 0).no == 3
@@ -496,9 +500,9 @@ static void fast_moves_reversed(void)
     grants(24, 32 * 11 + 16, 24);
     fast_is(0, NONE);
     cache_is(0, 32 * 7, 4);
-    eight_is(32 * 7 + 16, 32 * 8);
-    eight_is(32 * 8 + 16, 32 * 9);
-    eight_is(32 * 10 + 16, PLAIN_NONE64);
+    link_is(32 * 7, 32 * 8);
+    link_is(32 * 8, 32 * 9);
+    link_is(32 * 10, PLAIN_NONE64);
     stop();
 }
 
@@ -508,7 +512,7 @@ static void fast_moves_reversed(void)
 static void record_is_new(void)
 {
     struct lent fresh = lend(heap.length, 0);
-    lent_open(&fresh, KEY);
+    lent_open(&fresh, KEY, edition);
     CHECK(same_record(&heap, &fresh), "the record is not the newly opened one");
     eight_is(8, heap.length + 1);
     give_back(&fresh);
@@ -595,8 +599,8 @@ static void emptying_alone(void)
     cache_is(11, NONE, 0);
     fast_is(0, 0); /* on top of the one that was there */
     for (uint32_t i = 0; i < 7; i++)
-        eight_is(240 * i + 16, 240 * i + 240);
-    eight_is(1680 + 16, PLAIN_NONE64);
+        link_is(240 * i, 240 * i + 240);
+    link_is(1680, PLAIN_NONE64);
     bin_is(1, 32, 2224); /* those of 208, each by itself */
     for (uint32_t i = 0; i < 7; i++) {
         eight_is(240 * i + 32 + 8, 208 + 1);
@@ -818,7 +822,7 @@ static void pushes(void)
     releases(240);
     releases(304);
     fast_is(0, 288);
-    eight_is(288 + 16, 224);
+    link_is(288, 224);
     eight_is(256 + 8, 32 + 1);
     bin_is(1, NONE, NONE);
     cache_is(0, 192, 7);
@@ -910,16 +914,16 @@ static void cached_and_taken(void)
     start_row(1024, 3);
     releases(48);
     second_is(32, KEY);
-    eight_is(32 + 16, PLAIN_NONE64);
+    link_is(32, PLAIN_NONE64);
     eight_is(64, UNWRITTEN); /* its last usable bytes */
     releases(16);
     second_is(0, KEY);
-    eight_is(16, 32);
+    link_is(0, 32);
     second_is(32, KEY);
     second_is(64, data(64));
     grants(0, 16, 24);
     second_is(0, 0);
-    eight_is(16, 32); /* its link stays */
+    link_is(0, 32); /* its link stays */
     second_is(32, KEY);
     grants(24, 48, 24);
     second_is(32, 0);
@@ -942,7 +946,8 @@ static void every_cache_list(void)
             CHECK(f.no == 0 && f.kind == SECOND_CACHE && f.number == k,
                   "bit %u of the key in list %u: %u %u %u", bit, k, f.no,
                   f.kind, f.number);
-            CHECK(lent_audit_by(&heap, 1).kind == SECOND_SOUND,
+            CHECK(edition == 2
+                      || lent_audit_by(&heap, 1).kind == SECOND_SOUND,
                   "a key is asked of a heap of version 1");
         }
         plain_put(heap.arena + c + 24, 8, KEY);
@@ -1068,7 +1073,7 @@ static void key_and_emptying(void)
     second_is(0, KEY);
     empties();
     word_is("top", 1, 0);
-    eight_is(16, PLAIN_NONE64);
+    link_is(0, PLAIN_NONE64);
     second_is(0, 0);
     stop();
 
@@ -1097,7 +1102,7 @@ static void any_key(void)
     group("key: 0, all ones and any other");
     start(1024);
     for (unsigned i = 0; i < sizeof key / sizeof key[0]; i++) {
-        CHECK(lent_open(&heap, key[i]).no == 0, "open refused");
+        CHECK(lent_open(&heap, key[i], edition).no == 0, "open refused");
         CHECK(plain_get(heap.record + 1572, 8) == key[i],
               "the record's key is not the one given");
         grants(24, 16, 24);
@@ -1122,7 +1127,7 @@ static void opened_with_another_key(void)
     start_row(1024, 3);
     releases(16);
     releases(48);
-    CHECK(lent_open(&heap, ~KEY).no == 0, "open refused");
+    CHECK(lent_open(&heap, ~KEY, edition).no == 0, "open refused");
     second_is(0, KEY);
     second_is(32, KEY);
     CHECK(lent_sound(&heap), "an old key is asked after");
@@ -1580,7 +1585,7 @@ static void rests(void)
     }
 }
 
-/* That the heap is not sound for that bin, by the newest rules only. */
+/* That the heap is not sound for that bin; by versions 1 and 2 it is sound. */
 static void names_bin(unsigned bin, uint32_t c, unsigned word, unsigned bit)
 {
     struct second_fault f = lent_audit(&heap);
@@ -1667,7 +1672,279 @@ static void wrong_skips(void)
     stop();
 }
 
-int main(void)
+/* ---- document 02, (xi): mixed links ---- */
+
+/* Lends an arena with a block up to c and chunks of that size from there on. */
+static void start_at(uint32_t length, uint32_t c, uint32_t size, uint32_t count)
+{
+    start(length);
+    grants(c - 8, 16, c - 8);
+    for (uint32_t i = 0; i < count; i++)
+        grants(size - 8, c + i * size + 16, size - 8);
+}
+
+static uint64_t by_edition(uint64_t plain, uint64_t mixed)
+{
+    return edition == 2 ? mixed : plain;
+}
+
+/* Of the end mark, and of a link to it; (c + 16) / 4,096 is told. */
+static void stored_by_position(uint32_t c, uint64_t position)
+{
+    start_at(262144, c, 32, 2);
+    releases(c + 16);
+    cache_is(0, c, 1); /* heads are never mixed */
+    eight_is(c + 16, by_edition(PLAIN_NONE64, PLAIN_NONE64 - position));
+    second_is(c, KEY);
+    releases(c + 48);
+    cache_is(0, c + 32, 2);
+    uint64_t next = (c + 48) / 4096;
+    CHECK(next == position || next == position + 1, "told wrongly");
+    eight_is(c + 48, by_edition(c, c ^ next));
+    grants(24, c + 48, 24); /* taken, its link stays as it was stored */
+    eight_is(c + 48, by_edition(c, c ^ next));
+    cache_is(0, c, 1);
+    grants(24, c + 16, 24);
+    eight_is(c + 16, by_edition(PLAIN_NONE64, PLAIN_NONE64 - position));
+    cache_is(0, NONE, 0);
+    stop();
+}
+
+static void mixed_by_own_position(void)
+{
+    static const uint32_t at_position[][2] = {
+        { 32, 0 },      { 4048, 0 },    { 4064, 0 },    { 4080, 1 },
+        { 4096, 1 },    { 8160, 1 },    { 8176, 2 },    { 8192, 2 },
+        { 12272, 3 },   { 65504, 15 },  { 65520, 16 },  { 65536, 16 },
+        { 131040, 31 }, { 131056, 32 }, { 258016, 62 }, { 258032, 63 },
+        { 258048, 63 }, { 262048, 63 }
+    };
+
+    group("mixed: a link and the end mark by the link's own position");
+    for (unsigned i = 0; i < sizeof at_position / sizeof at_position[0]; i++)
+        stored_by_position(at_position[i][0], at_position[i][1]);
+}
+
+/* Links across 4,096, and between two of its multiples far apart. */
+static void mixed_lists(void)
+{
+    group("mixed: lists across multiples of 4,096");
+    start_at(16384, 4032, 32, 4); /* 4032, 4064, 4096, 4128 */
+    for (uint32_t i = 0; i < 4; i++)
+        releases(4048 + 32 * i);
+    cache_is(0, 4128, 4);
+    eight_is(4128 + 16, by_edition(4096, 4097));
+    eight_is(4096 + 16, by_edition(4064, 4065));
+    eight_is(4064 + 16, 4032);
+    eight_is(4032 + 16, PLAIN_NONE64);
+    stop();
+
+    start_at(20480, 4080, 4096, 3); /* 4080, 8176, 12272, made short */
+    for (uint32_t i = 0; i < 3; i++)
+        resizes(4096 * i + 4096, 24, 4096 * i + 4096, 24);
+    for (uint32_t i = 0; i < 3; i++)
+        releases(4096 * i + 4096);
+    cache_is(0, 12272, 3);
+    eight_is(12272 + 16, by_edition(8176, 8179)); /* 3 */
+    eight_is(8176 + 16, by_edition(4080, 4082));  /* 2 */
+    eight_is(4080 + 16, by_edition(PLAIN_NONE64, PLAIN_NONE64 - 1));
+    stop();
+}
+
+/* 12 of 32 from 8160 on: seven cached, five fast; links are mixed with 1, 2. */
+static void start_mixed_row(void)
+{
+    start_at(16384, 8160, 32, 12);
+    for (uint32_t i = 0; i < 12; i++)
+        releases(8176 + 32 * i);
+    cache_is(0, 8160 + 192, 7);
+    fast_is(0, 8160 + 352);
+}
+
+static void mixed_fast_lists(void)
+{
+    group("mixed: fast lists, and what step 2 and an emptying move");
+    start_mixed_row();
+    eight_is(8160 + 16, by_edition(PLAIN_NONE64, PLAIN_NONE64 - 1));
+    eight_is(8192 + 16, by_edition(8160, 8162));
+    eight_is(8384 + 16, by_edition(PLAIN_NONE64, PLAIN_NONE64 - 2));
+    eight_is(8416 + 16, by_edition(8384, 8386));
+    eight_is(8512 + 16, by_edition(8480, 8482));
+    for (uint32_t i = 0; i < 7; i++)
+        grants(24, 8176 + 32 * (6 - i), 24);
+    grants(24, 8512 + 16, 24); /* the other four are cached, reversed */
+    fast_is(0, NONE);
+    cache_is(0, 8384, 4);
+    eight_is(8384 + 16, by_edition(8416, 8418));
+    eight_is(8448 + 16, by_edition(8480, 8482));
+    eight_is(8480 + 16, by_edition(PLAIN_NONE64, PLAIN_NONE64 - 2));
+    stop();
+
+    start_mixed_row();
+    empties(); /* from the head on, and so the first of all comes last */
+    cache_is(0, NONE, 0);
+    fast_is(0, 8160);
+    eight_is(8160 + 16, by_edition(8192, 8193));
+    eight_is(8192 + 16, by_edition(8224, 8226));
+    eight_is(8352 + 16, by_edition(8512, 8514));
+    eight_is(8384 + 16, by_edition(PLAIN_NONE64, PLAIN_NONE64 - 2));
+    joins();
+    fast_is(0, NONE);
+    word_is("top", 1, 8160);
+    stop();
+}
+
+/* Fences keep them apart; the bins' own links are as they are. */
+static void mixed_and_binned(void)
+{
+    group("mixed: out of bins into the cache, the bins' links plain");
+    start(16384);
+    grants(8152, 16, 8152);
+    for (uint32_t i = 0; i < 10; i++) {
+        grants(200, 8176 + 240 * i, 200);
+        grants(24, 8384 + 240 * i, 24);
+    }
+    for (uint32_t i = 0; i < 10; i++)
+        releases(8176 + 240 * i);
+    bin_is(1, 10320, 9840);
+    eight_is(10320 + 16, 10080);
+    eight_is(10080 + 16, 9840);
+    eight_is(9840 + 16, PLAIN_NONE64);
+    for (uint32_t i = 0; i < 7; i++)
+        grants(200, 8176 + 240 * (6 - i), 200);
+    grants(200, 10336, 200); /* step 5 caches three, and grants the last */
+    cache_is(11, 10080, 2);
+    eight_is(10080 + 16, by_edition(9840, 9842));
+    eight_is(9840 + 16, by_edition(PLAIN_NONE64, PLAIN_NONE64 - 2));
+    stop();
+}
+
+/* The audit names that list, and by no other rule. */
+static void names_list(enum second_kind kind, unsigned number, const char *what)
+{
+    struct second_fault f = lent_audit(&heap);
+    CHECK(f.no == 0 && f.kind == kind && f.number == number,
+          "%s: %u %u %u, not 0 %u %u", what, f.no, f.kind, f.number, kind,
+          number);
+}
+
+/* Each bit of the link at c, and what other ways of mixing would store. */
+static void wrong_link_at(uint32_t c, enum second_kind kind, unsigned number)
+{
+    uint64_t right = plain_get(heap.arena + c + 16, 8);
+    uint64_t to = edition == 2 ? right ^ (c + 16) / 4096 : right;
+    uint64_t other[] = { to, to ^ c / 4096, to ^ (c + 16) / 4096,
+                         to ^ (c + 24) / 4096, to ^ (c + 16) / 16,
+                         to ^ (c + 16), 0, PLAIN_NONE64 };
+
+    for (unsigned bit = 0; bit < 64; bit++) {
+        plain_put(heap.arena + c + 16, 8, right ^ ((uint64_t)1 << bit));
+        names_list(kind, number, "a bit of a link");
+    }
+    for (unsigned i = 0; i < sizeof other / sizeof other[0]; i++) {
+        plain_put(heap.arena + c + 16, 8, other[i]);
+        if (other[i] != right)
+            names_list(kind, number, "a link stored otherwise");
+    }
+    plain_put(heap.arena + c + 16, 8, right);
+    CHECK(lent_sound(&heap), "not sound with all links");
+}
+
+static void wrong_links(void)
+{
+    group("mixed: a wrong link names its list, whichever it is");
+    start(65536);
+    for (unsigned k = 0; k < 64; k++)
+        releases(lent_grant(&heap, 24 + 16 * k).mem);
+    for (unsigned k = 0; k < 64; k++)
+        wrong_link_at(plain_word(heap.record, plain_cache_head(k)),
+                      SECOND_CACHE, k);
+    stop();
+
+    start_at(65536, 4080, 32, 1); /* eight of each size that is fast */
+    for (unsigned k = 0; k < 7; k++) {
+        uint64_t mem[8];
+        for (unsigned i = 0; i < 8; i++)
+            mem[i] = lent_grant(&heap, 24 + 16 * k).mem;
+        for (unsigned i = 0; i < 8; i++)
+            releases(mem[i]);
+    }
+    for (unsigned k = 0; k < 7; k++)
+        wrong_link_at(plain_word(heap.record, plain_fast_head(k)), SECOND_FAST,
+                      k);
+    stop();
+
+    start_mixed_row(); /* of a fast list the last: it may be cut elsewhere */
+    for (uint32_t i = 0; i < 8; i++)
+        wrong_link_at(8160 + 32 * i, i < 7 ? SECOND_CACHE : SECOND_FAST, 0);
+    stop();
+}
+
+static void other_editions(void)
+{
+    static const uint32_t bad[] = { 0, 3, 4, 255, 256, 257, 258, 513, 65537,
+                                    65538, 0x01000000, 0x02000000, 0x80000001,
+                                    0x80000002, NONE - 1, NONE };
+
+    group("edition: 12 for another one, after 1; both leave the same");
+    for (unsigned i = 0; i < sizeof bad / sizeof bad[0]; i++) {
+        refused_open(32, 1584, bad[i], 12);
+        refused_open(256, 1584, bad[i], 12);
+        refused_open(262144, 1584, bad[i], 12);
+        refused_open(255, 1584, bad[i], 1);
+        refused_open(16, 1584, bad[i], 1);
+        refused_open(262160, 1584, bad[i], 1);
+        refused_open(256, 1580, bad[i], 1);
+        refused_open(256, 1572, bad[i], 1);
+        start(256);
+        CHECK(lent_open(&heap, KEY, bad[i]).no == 12, "edition %u was opened",
+              bad[i]);
+        names_list(SECOND_RECORD, 0, "a closed record");
+        CHECK(lent_grant(&heap, 24).no == 3 && lent_release(&heap, 0).no == 3
+                  && lent_resize(&heap, 0, 24).no == 3
+                  && lent_emptying(&heap).no == 3
+                  && lent_joining(&heap).no == 3,
+              "a call on a closed record was not refused with 3");
+        stop();
+    }
+
+    group("edition: another number in the record is a record fault");
+    start_mixed_row();
+    for (unsigned i = 0; i < sizeof bad / sizeof bad[0]; i++) {
+        plain_put_edition(heap.record, bad[i]);
+        names_list(SECOND_RECORD, 0, "no edition");
+        CHECK(lent_grant(&heap, 24).no == 3 && lent_release(&heap, 0).no == 3
+                  && lent_grant(&heap, 262145).no == 2,
+              "calls with an edition %u in the record", bad[i]);
+        CHECK((lent_audit_by(&heap, 3).kind == SECOND_SOUND) == (edition == 1),
+              "edition %u by the rules of version 3", bad[i]);
+    }
+    for (unsigned bit = 0; bit < 32; bit++) {
+        plain_put_edition(heap.record, edition ^ (uint32_t)1 << bit);
+        names_list(SECOND_RECORD, 0, "a bit of the edition");
+    }
+    plain_put_word(heap.record, 1, 8); /* before the tiles and the lists */
+    plain_put(heap.arena + 8, 8, 2);
+    names_list(SECOND_RECORD, 0, "no edition, and a bad tile");
+    plain_put_edition(heap.record, edition);
+    names_list(SECOND_TILE, 0, "a bad tile");
+    stop();
+
+    group("edition: the other one in the record misreads the lists");
+    start_mixed_row();
+    plain_put_edition(heap.record, 3 - edition);
+    names_list(SECOND_CACHE, 0, "the other edition");
+    plain_put_edition(heap.record, edition);
+    CHECK(lent_sound(&heap), "not sound with its own");
+    stop();
+    start_at(16384, 4064, 32, 1); /* its link stands at 4,080: not mixed */
+    releases(4080);
+    plain_put_edition(heap.record, 3 - edition);
+    CHECK(lent_sound(&heap), "another edition where nothing is mixed");
+    stop();
+}
+
+static void traces(void)
 {
     request_sizes();
     bin_numbers();
@@ -1715,5 +1992,16 @@ int main(void)
     consolidated_up_to_1024();
     rests();
     wrong_skips();
+    mixed_by_own_position();
+    mixed_lists();
+    mixed_fast_lists();
+    mixed_and_binned();
+    wrong_links();
+    other_editions();
+}
+
+int main(void)
+{
+    in_both_editions(traces);
     return finish();
 }

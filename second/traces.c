@@ -3,11 +3,22 @@
 #include "plain.h"
 
 struct lent heap;
+uint32_t edition = 1;
+
+void in_both_editions(void (*traces)(void))
+{
+    for (edition = 1; edition <= 2; edition++) {
+        groups_of(edition == 1 ? "edition 1: " : "edition 2: ");
+        traces();
+    }
+    edition = 1;
+    groups_of("");
+}
 
 void start(uint32_t length)
 {
     heap = lend(length, 0xa5);
-    struct second_answer a = lent_open(&heap, KEY);
+    struct second_answer a = lent_open(&heap, KEY, edition);
     CHECK(a.no == 0 && a.mem == 0 && a.usable == 0, "open of %u answers %u",
           length, a.no);
     CHECK(lent_sound(&heap), "a newly opened arena of %u is not sound", length);
@@ -90,6 +101,11 @@ void eight_is(uint32_t at, uint64_t expected)
     uint64_t v = plain_get(heap.arena + at, 8);
     CHECK(v == expected, "the number at %u is %llu, not %llu", at,
           (unsigned long long)v, (unsigned long long)expected);
+}
+
+void link_is(uint32_t c, uint64_t to)
+{
+    eight_is(c + 16, edition == 2 ? to ^ (c + 16) / 4096 : to);
 }
 
 void second_is(uint32_t c, uint64_t expected)

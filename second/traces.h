@@ -20,6 +20,10 @@
 
 extern struct lent heap;
 
+/* The one that start opens with; a test runs its traces in both. */
+extern uint32_t edition;
+void in_both_editions(void (*traces)(void));
+
 /*
  * Lends an arena of that length, filled with 0xa5, and opens it with the key;
  * gives it back.
@@ -42,6 +46,9 @@ void cache_is(unsigned k, uint32_t head, uint32_t count);
 void fast_is(unsigned k, uint32_t head);
 void bin_is(unsigned bin, uint32_t first, uint32_t last);
 void eight_is(uint32_t at, uint64_t expected);
+
+/* Where the chunk at c, cached or fast, leads; in edition 2 it is mixed. */
+void link_is(uint32_t c, uint64_t to);
 
 /* What stands in the second word of the chunk at c. */
 void second_is(uint32_t c, uint64_t expected);

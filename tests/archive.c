@@ -3,15 +3,16 @@
  * the same bytes; answer, every record byte and every arena byte must come out
  * the same, and so must the audits after it. What the documents say outright
  * (refusals that write nothing, the bytes that a resized block and all others
- * keep, demand 3, that a bigger arena and another key change nothing, the
- * figures marked 'run and compared') is checked on the archive by itself as
- * well.
+ * keep, demand 3, that a bigger arena, another key and the other edition change
+ * nothing, the figures marked 'run and compared') is checked on the archive by
+ * itself as well.
  *
  * Seeds are fixed: a run is the same everywhere. The argument, a number, makes
  * it that many times as long, with further seeds. This file has the order of
- * the groups; figures.c, shapes.c, heaps.c, bigger.c, keys.c, skips.c, images.c
- * and stack.c have the groups, pair.c has one call on both programs, holders.c
- * the holders of blocks and demand 3, guarded.c buffers between guards.
+ * the groups; figures.c, shapes.c, heaps.c, bigger.c, keys.c, skips.c,
+ * editions.c, images.c and stack.c have the groups, pair.c has one call on both
+ * programs, holders.c the holders of blocks and demand 3, twins.c the same
+ * calls in two arenas, guarded.c buffers between guards.
  */
 #include "groups.h"
 #include "pair.h"
@@ -28,13 +29,13 @@ static void the_run(void)
     group("the run made 100,000 calls, met every refusal and every fault");
     CHECK(tally.calls >= LEAST_CALLS, "only %llu calls were made",
           (unsigned long long)tally.calls);
-    for (unsigned no = 1; no <= 7; no++)
+    for (unsigned no = 1; no <= 12; no += no < 7 ? 1 : 5)
         CHECK(tally.refused[no] > 0, "no call was refused with %u", no);
     for (unsigned kind = 0; kind <= 6; kind++)
         CHECK(tally.faults[kind] > 0, "no audit found kind %u", kind);
-    remark(", %llu calls, %llu audits; refused with 1 to 7:",
+    remark(", %llu calls, %llu audits; refused with 1 to 7 and 12:",
            (unsigned long long)tally.calls, (unsigned long long)tally.audits);
-    for (unsigned no = 1; no <= 7; no++)
+    for (unsigned no = 1; no <= 12; no += no < 7 ? 1 : 5)
         remark(" %llu", (unsigned long long)tally.refused[no]);
     remark("; faults of kind 1 to 6:");
     for (unsigned kind = 1; kind <= 6; kind++)
@@ -65,6 +66,7 @@ int main(int argc, char **argv)
     bad_shapes();
     lengths_past_32_bits();
     closed_heaps();
+    bad_editions();
     sequences("random calls in opened arenas up to 8,192", 32, 8192,
               220 * times, 300);
     sequences("random calls in opened arenas up to 262,144", 32, 262144,
@@ -87,6 +89,11 @@ int main(int argc, char **argv)
     wrong_skips(1500 * times);
     wrong_rings();
     kept_rings(300 * times);
+    link_places();
+    wrong_links(1500 * times);
+    every_wrong_link();
+    wrong_editions(600 * times);
+    two_editions(300 * times);
     sound_heaps("random sound heaps up to 8,192", 8192, 8000 * times);
     sound_heaps("random sound heaps up to 262,144", 262144, 200 * times);
     flawed_heaps(2000 * times);
@@ -123,14 +130,22 @@ int main(int argc, char **argv)
                   300 * times);
     harmed_images("images of heaps with a wrong skip link", harm_skip,
                   22 << 20, 300 * times);
+    harmed_images("images of heaps with a link stored otherwise", harm_link,
+                  29 << 20, 300 * times);
+    harmed_images("images of heaps with another edition", harm_edition,
+                  30 << 20, 300 * times);
     old_sound_images("images of version 1 of sound heaps, and calls on what "
                      "is read in", 1, 1000 * times);
     old_sound_images("images of version 2 of sound heaps, and calls on what "
                      "is read in", 2, 1000 * times);
+    old_sound_images("images of version 3 of sound heaps, and calls on what "
+                     "is read in", 3, 1000 * times);
     old_harmed_images("images of version 1 of harmed heaps are copied, and "
                       "nothing more", 1, 1000 * times);
     old_harmed_images("images of version 2 of harmed heaps are copied, and "
                       "nothing more", 2, 1000 * times);
+    old_harmed_images("images of version 3 of harmed heaps are copied, and "
+                      "nothing more", 3, 1000 * times);
     continued_images(60 * times);
     stack_taken(600 * times);
     the_run();

@@ -12,6 +12,7 @@
  *   bench cases                   prints the names of the cases, their TIMES
  *                                 and what one of them is
  *
+ * Each case is there in both editions, the second with -mixed behind its name.
  * Who is archive, second or walk. Loading and copying heaps counts for none of
  * them: it is not timed, and its instructions are taken off.
  */
@@ -71,7 +72,22 @@ static const struct bench {
       GROWTHS, 3 },
     { "day", "a day of dip curves in 48 KiB, one call", DAY, 0, DAY_CALLS, 4 }
 };
-#define BENCHES (sizeof bench / sizeof bench[0])
+#define CASES (2 * (sizeof bench / sizeof bench[0]))
+
+static uint32_t edition; /* of the case in hand */
+
+/* Each in both editions, one after the other. */
+static const struct bench *nth_case(unsigned i)
+{
+    edition = 1 + i % 2;
+    return &bench[i / 2];
+}
+
+/* What is behind the name of a case, and of a file. */
+static const char *suffix(void)
+{
+    return edition == HEAP_LINKS_MIXED ? "-mixed" : "";
+}
 
 struct heap {
     uint8_t record[HEAP_RECORD_BYTES];
@@ -131,7 +147,8 @@ static uint32_t call(enum who who, struct heap *h, char letter, uint64_t n)
     if (who == ARCHIVE)
         switch (letter) {
         case 'A':
-            return heap_open(h->arena, h->length, h->record, RECORD, KEY).no;
+            return heap_open(h->arena, h->length, h->record, RECORD, KEY,
+                             edition).no;
         case 'G':
             return heap_grant(h->arena, h->length, h->record, RECORD, n).mem;
         case 'R':
@@ -145,7 +162,8 @@ static uint32_t call(enum who who, struct heap *h, char letter, uint64_t n)
         }
     switch (letter) {
     case 'A':
-        return second_open(h->arena, h->length, h->record, RECORD, KEY).no;
+        return second_open(h->arena, h->length, h->record, RECORD, KEY,
+                           edition).no;
     case 'G':
         return second_grant(h->arena, h->length, h->record, RECORD, n).mem;
     case 'R':
@@ -265,11 +283,11 @@ static void load_case(const struct bench *b, const char *folder)
         snprintf(name, sizeof name, "growth-%u", b->chunks);
         load(folder, name, growth, sizeof growth);
     }
-    snprintf(name, sizeof name, "%s-%u",
+    snprintf(name, sizeof name, "%s-%u%s",
              b->kind == PAIR          ? "warm"
                  : b->kind == JOINING ? "emptied"
                  : b->kind == GROW    ? "grow" : "heap",
-             b->chunks);
+             b->chunks, suffix());
     load(folder, name, &image, sizeof image);
     work = image;
 }
@@ -325,28 +343,31 @@ static void prepare_heap(const char *folder, uint32_t chunks, uint32_t most)
     char name[64];
 
     fill_image(chunks, most, 0, NULL);
-    snprintf(name, sizeof name, "heap-%u", chunks);
+    snprintf(name, sizeof name, "heap-%u%s", chunks, suffix());
     save(folder, name, &image, sizeof image);
 
     work = image;
     run_case(&(struct bench){ .kind = PAIR }, SECOND, 8, true);
-    snprintf(name, sizeof name, "warm-%u", chunks);
+    snprintf(name, sizeof name, "warm-%u%s", chunks, suffix());
     save(folder, name, &work, sizeof work);
 
     work = image;
     call(SECOND, &work, 'E', 0);
-    snprintf(name, sizeof name, "emptied-%u", chunks);
+    snprintf(name, sizeof name, "emptied-%u%s", chunks, suffix());
     save(folder, name, &work, sizeof work);
 }
 
-/* Each curve in turn by one step, until all are as long as they become. */
+/*
+ * Each curve in turn by one step, until all are as long as they become. The
+ * calls are the same in both editions, as all answers are; so is the day.
+ */
 static void prepare_growth(const char *folder, uint32_t chunks, uint32_t most)
 {
     uint32_t curve[CURVES];
     char name[64];
 
     fill_image(chunks, most, CURVES, curve);
-    snprintf(name, sizeof name, "grow-%u", chunks);
+    snprintf(name, sizeof name, "grow-%u%s", chunks, suffix());
     save(folder, name, &image, sizeof image);
     for (uint32_t i = 0; i < GROWTHS; i++) {
         uint32_t *mem = &curve[i % CURVES];
@@ -393,11 +414,14 @@ static void prepare_day(const char *folder)
 
 static void prepare(const char *folder)
 {
-    prepare_heap(folder, 64, 3900);
-    prepare_heap(folder, 1000, 400);
-    prepare_heap(folder, 8000, 1);
-    prepare_growth(folder, 64, 3900);
-    prepare_growth(folder, 1000, 300);
+    for (edition = 1; edition <= 2; edition++) {
+        prepare_heap(folder, 64, 3900);
+        prepare_heap(folder, 1000, 400);
+        prepare_heap(folder, 8000, 1);
+        prepare_growth(folder, 64, 3900);
+        prepare_growth(folder, 1000, 300);
+    }
+    edition = 1;
     prepare_day(folder);
 }
 
@@ -455,7 +479,7 @@ static void time_case(const struct bench *b, const char *folder)
             if (round == 0 || t < best[who])
                 best[who] = t;
         }
-    printf("%s", b->name);
+    printf("%s%s", b->name, suffix());
     for (unsigned who = 0; who < WHOS; who++)
         printf(" %.0f", best[who]);
     putchar('\n');
@@ -466,29 +490,34 @@ static void time_case(const struct bench *b, const char *folder)
 
 static void run_one(char **argv, bool with)
 {
-    for (unsigned i = 0; i < BENCHES; i++)
-        for (unsigned who = 0; who < WHOS; who++)
-            if (strcmp(bench[i].name, argv[1]) == 0
+    for (unsigned i = 0; i < CASES; i++)
+        for (unsigned who = 0; who < WHOS; who++) {
+            const struct bench *b = nth_case(i);
+            char name[64];
+            snprintf(name, sizeof name, "%s%s", b->name, suffix());
+            if (strcmp(name, argv[1]) == 0
                 && strcmp(who_name[who], argv[2]) == 0) {
-                load_case(&bench[i], argv[0]);
-                run_case(&bench[i], who, (uint32_t)strtoul(argv[3], NULL, 10),
-                         with);
+                load_case(b, argv[0]);
+                run_case(b, who, (uint32_t)strtoul(argv[3], NULL, 10), with);
                 exit(0);
             }
+        }
     must(false, "no such case, or none of archive, second, walk");
 }
 
 int main(int argc, char **argv)
 {
     if (argc == 2 && strcmp(argv[1], "cases") == 0) {
-        for (unsigned i = 0; i < BENCHES; i++)
-            printf("%s %u %s\n", bench[i].name, bench[i].times,
-                   bench[i].what);
+        for (unsigned i = 0; i < CASES; i++) {
+            const struct bench *b = nth_case(i);
+            printf("%s%s %u %s%s\n", b->name, suffix(), b->times, b->what,
+                   edition == 1 ? "" : "; edition 2");
+        }
     } else if (argc == 3 && strcmp(argv[1], "prepare") == 0) {
         prepare(argv[2]);
     } else if (argc == 3 && strcmp(argv[1], "time") == 0) {
-        for (unsigned i = 0; i < BENCHES; i++)
-            time_case(&bench[i], argv[2]);
+        for (unsigned i = 0; i < CASES; i++)
+            time_case(nth_case(i), argv[2]);
     } else if (argc >= 6 && strcmp(argv[1], "run") == 0) {
         run_one(argv + 2, argc == 6);
     } else {

@@ -1,14 +1,14 @@
 /*
  * Document 02, (ii): a bigger arena changes nothing. Two arenas of different
- * lengths are opened over different bytes with different keys and get the same
- * calls, none of them a resize, and the same bytes from the holders. After each
- * call the answers agree, the records but for length and key, and every byte
- * that its holder has written since the grant, up to a call that breaks a
- * premise: a grant that finds the smaller arena's top short in step 9, or a
- * release that yields 65,536 or more in either arena. The second program, which
- * makes each call beside the archive, tells by its trace whether one did. The
- * sequence ends there, and what that call left shows whether the premise was
- * needed.
+ * lengths are opened over different bytes with different keys, in any editions,
+ * and get the same calls, none of them a resize, and the same bytes from the
+ * holders. After each call the answers agree, the records but for length, key
+ * and edition, and every byte that its holder has written since the grant, up
+ * to a call that breaks a premise: a grant that finds the smaller arena's top
+ * short in step 9, or a release that yields 65,536 or more in either arena. The
+ * second program, which makes each call beside the archive, tells by its trace
+ * whether one did. The sequence ends there, and what that call left shows
+ * whether the premise was needed.
  */
 #include "groups.h"
 
@@ -60,7 +60,7 @@ static bool goes_on(const struct two_arenas *t)
 
 /* ---- what agrees ---- */
 
-/* All but the length, which is the first word, and the key behind the words. */
+/* All but the length, which is the first word, and what is behind the words. */
 static bool same_records(const struct two_arenas *t)
 {
     return memcmp(t->smaller.ours.record + 4, t->larger.ours.record + 4,
@@ -409,8 +409,9 @@ static struct two_arenas two_opened(uint64_t seed, struct random r,
 
     uint64_t key = random_key(&other), another = random_key(&other);
 
-    open_with(&t.smaller, key);
-    open_with(&t.larger, key == another ? ~key : another);
+    open_with(&t.smaller, key, random_edition(&other));
+    open_with(&t.larger, key == another ? ~key : another,
+              random_edition(&other));
     CHECK(same_records(&t), "%s: opened, the records differ", where(&t));
     t.written = memory(smaller);
     memset(t.written, 0, smaller);

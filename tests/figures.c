@@ -116,8 +116,8 @@ void arenas(void)
         CHECK(both(&p, GRANT, n).no == 5, "arena 32 grants %u bytes",
               (unsigned)n);
     pair_free(&p);
-    refused_shape(&r, OPEN, 16, 1580);
-    refused_shape(&r, OPEN, 262160, 1580);
+    refused_shape(&r, OPEN, 16, 1584);
+    refused_shape(&r, OPEN, 262160, 1584);
 
     p = opened(262144, 262144);
     CHECK(both(&p, GRANT, 262105).no == 5, "262,105 bytes granted");

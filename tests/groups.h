@@ -25,10 +25,12 @@ void refused_shape(struct random *r, enum call call, size_t length,
                    size_t record_len);
 void lengths_past_32_bits(void);
 void closed_heaps(void);
+void bad_editions(void);
 
 /* heaps.c; a harm makes the archive's heap of a pair */
 typedef void harm(struct pair *);
-harm harm_field, harm_high, harm_bytes, harm_key, harm_skip, harm_all;
+harm harm_field, harm_high, harm_bytes, harm_key, harm_skip, harm_link,
+    harm_edition, harm_all;
 void sequences(const char *name, uint32_t from, uint32_t to, uint32_t rounds,
                uint32_t calls);
 void in_turn(uint32_t rounds);
@@ -61,6 +63,13 @@ void skip_places(void);
 void wrong_skips(uint32_t rounds);
 void wrong_rings(void);
 void kept_rings(uint32_t rounds);
+
+/* editions.c */
+void link_places(void);
+void wrong_links(uint32_t rounds);
+void every_wrong_link(void);
+void wrong_editions(uint32_t rounds);
+void two_editions(uint32_t rounds);
 
 /* images.c */
 void image_bytes(void);

@@ -411,6 +411,25 @@ void harm_skip(struct pair *p)
     damage_skip(&p->r, p->ours.arena, p->ours.record);
 }
 
+/* One cached or fast chunk with another link, mostly one mixed otherwise. */
+void harm_link(struct pair *p)
+{
+    random_heap(&p->r, p->ours.arena, (uint32_t)p->ours.length,
+                p->ours.record);
+    damage_link(&p->r, p->ours.arena, p->ours.record);
+}
+
+/* A number that is no edition, or the other edition. */
+void harm_edition(struct pair *p)
+{
+    random_heap(&p->r, p->ours.arena, (uint32_t)p->ours.length,
+                p->ours.record);
+    if (random_chance(&p->r, 50))
+        damage_edition(&p->r, p->ours.record);
+    else
+        plain_put_edition(p->ours.record, 3 - plain_edition(p->ours.record));
+}
+
 /* Bytes that are no heap, but for what an audit looks at first. */
 void harm_all(struct pair *p)
 {
@@ -418,6 +437,8 @@ void harm_all(struct pair *p)
     random_bytes(&p->r, p->ours.record, p->ours.record_len);
     if (random_chance(&p->r, 90))
         plain_put_word(p->ours.record, 0, (uint32_t)p->ours.length);
+    if (random_chance(&p->r, 90))
+        plain_put_edition(p->ours.record, random_edition(&p->r));
     for (size_t at = 0; at < p->ours.length; at += 32)
         plain_put(p->ours.arena + at + 8, 8, 33);
     if (random_chance(&p->r, 50))
@@ -467,12 +488,12 @@ void flawed_heaps(uint32_t rounds)
     static const enum flaw drawn[] = { FLAW_ORDER, FLAW_EIGHT, FLAW_ORDER,
                                        FLAW_EIGHT, FLAW_ORDER, FLAW_TOP,
                                        FLAW_HOME,  FLAW_NEIGHBOURS,
-                                       FLAW_KEY,   FLAW_SKIP };
+                                       FLAW_KEY,   FLAW_SKIP,  FLAW_MIX };
     uint64_t before = tally.calls, unsound[FLAW_COUNT] = { 0 };
 
     group("heaps that break one rule throughout");
     for (uint64_t i = 1; i <= rounds && !group_failed(); i++) {
-        enum flaw flaw = drawn[i % 10];
+        enum flaw flaw = drawn[i % 11];
         struct pair p = flawed((1 << 20) + i, flaw);
         unsound[flaw] += both_audits(&p).kind != SECOND_SOUND;
         calls_on_any(&p, 1 + random_below(&p.r, 3));
@@ -526,7 +547,7 @@ void guards(uint32_t rounds)
                                      : random_length(&r, 16384);
         struct pair p = pair_new(seed, r, length);
         struct guarded arena = guard(length, i % 3 == 0 ? 0 : i % 17);
-        struct guarded record = guard(1580, i % 2 == 0 ? 0 : i % 13);
+        struct guarded record = guard(1584, i % 2 == 0 ? 0 : i % 13);
         struct lent own = p.ours;
         p.ours.arena = arena.bytes;
         p.ours.record = record.bytes;

@@ -217,7 +217,8 @@ static void as_newly_opened(struct model *m)
 {
     struct lent fresh = lend(m->p.ours.length, 0x5a);
     struct second_answer a =
-        call_ours(&fresh, OPEN, plain_key(m->p.ours.record), 0);
+        call_ours(&fresh, OPEN, plain_key(m->p.ours.record),
+                  plain_edition(m->p.ours.record));
     uint32_t block[6] = { 0 }, turn = 0;
 
     CHECK(a.no == 0 && same_record(&fresh, &m->p.ours),

@@ -3,7 +3,7 @@
  * program, and against what document 02 says outright. Every byte of file,
  * arena and record is compared, and each of them stands between guards. A heap
  * read in then goes on beside the one that was written, or, from an image of
- * version 1 or 2, beside the one that the second program has read.
+ * version 1 to 3, beside the one that the second program has read.
  */
 #define _DEFAULT_SOURCE
 #include "groups.h"
@@ -18,14 +18,16 @@
 #include "plain.h"
 
 #define HEADER 9u
-#define RECORD 1580u
-#define OLD_RECORD 1572u /* in an image of version 1: without the key */
-#define NEWEST 3u        /* of the versions; this one is written */
+#define RECORD 1584u
+#define NEWEST 4u /* of the versions; this one is written */
 
-/* Where the arena stands in an image of that version. */
+/*
+ * Where the arena stands in an image of that version: its record is without the
+ * key in version 1, and without the edition in those up to 3.
+ */
 static size_t arena_at(uint64_t version)
 {
-    return HEADER + (version == 1 ? OLD_RECORD : RECORD);
+    return HEADER + (version == 1 ? 1572 : version <= 3 ? 1580 : RECORD);
 }
 
 /* The lengths of the three buffers of a call. */
@@ -286,20 +288,25 @@ void old_sound_images(const char *name, unsigned version, uint32_t rounds)
         struct pair p = random_pair((19 << 20) + i);
         random_heap(&p.r, p.ours.arena, (uint32_t)p.ours.length,
                     p.ours.record);
+        plain_to_edition(p.ours.arena, p.ours.record, 1);
         if (version == 1 && i % 2 == 0)
             damage_key(&p.r, p.ours.arena, p.ours.record);
-        for (uint32_t times = random_below(&p.r, 6); times > 0; times--)
+        for (uint32_t times = version < 3 ? random_below(&p.r, 6) : 0;
+             times > 0; times--)
             damage_skip(&p.r, p.ours.arena, p.ours.record);
+        if (i % 4 == 0)
+            damage_edition(&p.r, p.ours.record); /* the file has none */
         lacking += !is_sound(&p.ours);
         same_start(&p);
         CHECK(old_trip(&p, version).kind == SECOND_SOUND,
-              "seed %llu: a key or a skip link is asked of version %u",
+              "seed %llu: a key, a skip link or an edition is asked of "
+              "version %u",
               (unsigned long long)p.seed, version);
-        round_trip(&p); /* and written in version 3 */
+        round_trip(&p); /* and written in version 4 */
         calls_on_any(&p, 1 + random_below(&p.r, 6));
         pair_free(&p);
     }
-    remark(", %llu with a wrong key or skip link",
+    remark(", %llu with a wrong key, skip link or edition",
            (unsigned long long)lacking);
     CHECK(lacking > rounds / 20, "only %llu are not sound today",
           (unsigned long long)lacking);
@@ -330,7 +337,7 @@ void old_harmed_images(const char *name, unsigned version, uint32_t rounds)
 /* Every byte of a small one, as document 02 has them. */
 void image_bytes(void)
 {
-    static const uint8_t header[HEADER] = { 'H', 'P', 'I', 3, 0,
+    static const uint8_t header[HEADER] = { 'H', 'P', 'I', 4, 0,
                                             0x10, 0x02, 0, 0 };
     struct pair p = opened(700, 528);
 
@@ -340,11 +347,13 @@ void image_bytes(void)
     for (unsigned i = 0; i < RECORD; i++)
         CHECK(file.bytes[9 + i] == p.theirs.record[i],
               "byte %u is not byte %u of the record", 9 + i, i);
-    CHECK(plain_get(file.bytes + 1581, 8) == plain_key(p.theirs.record),
-          "the key does not stand before the arena");
+    CHECK(plain_get(file.bytes + 1581, 8) == plain_key(p.theirs.record)
+              && plain_get(file.bytes + 1589, 4)
+                     == plain_edition(p.theirs.record),
+          "key and edition do not stand before the arena");
     for (unsigned i = 0; i < 528; i++)
-        CHECK(file.bytes[1589 + i] == p.theirs.arena[i],
-              "byte %u is not byte %u of the arena", 1589 + i, i);
+        CHECK(file.bytes[1593 + i] == p.theirs.arena[i],
+              "byte %u is not byte %u of the arena", 1593 + i, i);
     read_both(&p, &file, 40);
     guard_free(&file);
     pair_free(&p);
@@ -373,7 +382,7 @@ static void make_image(unsigned version, uint32_t length)
         room.arena = guard(ROOM, 0);
         room.record = guard(ROOM, 0);
     }
-    call_theirs(&l, OPEN, 0x1234567890abcdef, 0);
+    call_theirs(&l, OPEN, 0x1234567890abcdef, 1 + length / 16 % 2);
     memset(image, 0x66, sizeof image);
     image_length = length;
     image_arena = arena_at(version);
@@ -528,29 +537,29 @@ void image_short_files(void)
 /* Of the file, of its field, of arena and record: one or several of them. */
 static void wrong_lengths(unsigned version)
 {
-    static const int off[] = { 0, -16, -8, -1, 1, 8, 16 };
+    static const int off[] = { 0, -16, -8, -4, -1, 1, 4, 8, 16 };
 
     make_image(version, 256);
-    for (unsigned i = 0; i < 7 * 7 * 7 * 7 && !group_failed(); i++) {
-        put_field(256 + (uint32_t)off[i % 7]);
-        try_read(image_arena + 256 + (size_t)off[i / 7 % 7],
-                 256 + (size_t)off[i / 49 % 7],
-                 RECORD + (size_t)off[i / 343]);
+    for (unsigned i = 0; i < 9 * 9 * 9 * 9 && !group_failed(); i++) {
+        put_field(256 + (uint32_t)off[i % 9]);
+        try_read(image_arena + 256 + (size_t)off[i / 9 % 9],
+                 256 + (size_t)off[i / 81 % 9],
+                 RECORD + (size_t)off[i / 729]);
     }
     put_field(256);
     try_read(image_arena + 256, 0, RECORD);
     try_read(image_arena + 256, 256, 0);
     try_read(image_arena + 256, 0, 0);
-    for (size_t record_len = 1568; record_len <= 1592; record_len += 4)
+    for (size_t record_len = 1568; record_len <= 1600; record_len += 4)
         try_read(image_arena + 256, 256, record_len);
 }
 
 void image_lengths(void)
 {
-    group("lengths of file, field, arena and record, off by 1, 8 and 16");
+    group("lengths of file, field, arena and record, off by 1, 4, 8 and 16");
     for (unsigned version = 1; version <= NEWEST; version++)
         wrong_lengths(version);
-    wrong_lengths(4); /* which is not known, and comes before any length */
+    wrong_lengths(5); /* which is not known, and comes before any length */
 }
 
 /* The field says something else than file and arena, which agree. */
@@ -563,13 +572,16 @@ static void wrong_fields(unsigned version)
         0xfffffff0, 0xffffffff,
         0u - 1581,      /* the whole file wraps to 0 in 32 bits, */
         0u - 1589,
+        0u - 1593,
         0u - 1581 + 32, /* to 32, */
         0u - 1589 + 32,
-        0u - 1568       /* to 13 or 21 */
+        0u - 1593 + 32,
+        0u - 1568       /* to 13, 21 or 25 */
     };
     static const size_t file_len[] = { 9, 10, 13, 32, 1580, 1581, 1588, 1589,
-                                       1597, 1605, 1613, 1614, 1621, 1622,
-                                       1629, 1637, 1645, 1653, 2000 };
+                                       1592, 1593, 1597, 1605, 1613, 1614, 1621,
+                                       1622, 1625, 1626, 1629, 1637, 1641, 1645,
+                                       1653, 2000 };
 
     make_image(version, 32);
     for (unsigned i = 0; i < sizeof field / sizeof field[0]; i++) {
@@ -592,7 +604,7 @@ void image_fields(void)
         wrong_fields(version);
 }
 
-/* None but 1, 2 and 3, in files as long as an image of any of them. */
+/* None but 1 to 4, in files as long as an image of any of them. */
 void image_versions(void)
 {
     group("versions that are not known are refused with 7");
@@ -652,9 +664,9 @@ void image_writes(void)
 {
     static const size_t length[] = { 0,  1,  15, 16, 17, 31,  32,  33,  40,
                                      47, 48, 49, 64, 80, 256, 264, 512, 1000 };
-    static const size_t record_len[] = { 0,    1,    1564, 1572, 1576, 1579,
-                                         1580, 1581, 1584, 1588, 1596 };
-    static const int off[] = { 0, -1589, -1580, -16, -9, -8, -4, -1,
+    static const size_t record_len[] = { 0,    1,    1568, 1572, 1576, 1580,
+                                         1583, 1584, 1585, 1588, 1592, 1600 };
+    static const int off[] = { 0, -1593, -1584, -16, -9, -8, -4, -1,
                                1, 4,     8,     9,   16, 32 };
 
     group("images written to and from buffers of any length");

@@ -31,7 +31,8 @@ struct second_answer call_ours(struct lent *l, enum call call,
     struct heap_answer a = { 0, 0, 0 };
     switch (call) {
     case OPEN:
-        a = heap_open(l->arena, l->length, l->record, l->record_len, number);
+        a = heap_open(l->arena, l->length, l->record, l->record_len, number,
+                      (uint32_t)n);
         break;
     case GRANT:
         a = heap_grant(l->arena, l->length, l->record, l->record_len, number);
@@ -60,7 +61,7 @@ struct second_answer call_theirs(struct lent *l, enum call call,
                                  uint64_t number, uint64_t n)
 {
     switch (call) {
-    case OPEN: return lent_open(l, number);
+    case OPEN: return lent_open(l, number, (uint32_t)n);
     case GRANT: return lent_grant(l, number);
     case RELEASE: return lent_release(l, number);
     case RESIZE: return lent_resize(l, number, n);
@@ -115,7 +116,7 @@ static const char *told(enum call call, uint64_t number, uint64_t n)
     static char text[64];
     int used = snprintf(text, sizeof text, "%s %llu", call_name[call],
                         (unsigned long long)number);
-    if (call == RESIZE)
+    if (call == RESIZE || call == OPEN)
         snprintf(text + used, sizeof text - (size_t)used, " %llu",
                  (unsigned long long)n);
     return text;
@@ -194,6 +195,11 @@ struct second_answer both_resize(struct pair *p, uint64_t mem, uint64_t n)
     return both_of(p, RESIZE, mem, n);
 }
 
+struct second_answer both_open(struct pair *p, uint64_t key, uint32_t edition)
+{
+    return both_of(p, OPEN, key, edition);
+}
+
 /* A call that must be refused with that number and write nothing. */
 static void refused_of(struct pair *p, enum call call, uint64_t number,
                        uint64_t n, uint32_t no)
@@ -240,22 +246,24 @@ void same_start(struct pair *p)
     copy_lent(&p->theirs, &p->ours);
 }
 
-void open_with(struct pair *p, uint64_t key)
+void open_with(struct pair *p, uint64_t key, uint32_t edition)
 {
     random_bytes(&p->r, p->ours.arena, p->ours.length);
     random_bytes(&p->r, p->ours.record, p->ours.record_len);
     same_start(p);
-    struct second_answer a = both(p, OPEN, key);
+    struct second_answer a = both_open(p, key, edition);
     CHECK(a.no == 0 && is_sound(&p->ours), "seed %llu: open refused",
           (unsigned long long)p->seed);
-    CHECK(plain_key(p->ours.record) == key,
-          "seed %llu: the record has another key than the one given",
+    CHECK(plain_key(p->ours.record) == key
+              && plain_edition(p->ours.record) == edition,
+          "seed %llu: the record has another key or edition than was given",
           (unsigned long long)p->seed);
 }
 
 void open_pair(struct pair *p)
 {
-    open_with(p, random_key(&p->r));
+    uint64_t key = random_key(&p->r);
+    open_with(p, key, random_edition(&p->r));
 }
 
 struct pair opened(uint64_t seed, size_t length)

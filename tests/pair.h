@@ -36,7 +36,7 @@ struct pair {
 
 /* What the whole run did. */
 extern struct tally {
-    uint64_t calls, audits, refused[8], faults[7];
+    uint64_t calls, audits, refused[13], faults[7];
     uint64_t resized, moved; /* blocks held by a model */
 } tally;
 
@@ -45,8 +45,8 @@ void *memory(size_t length);
 
 /*
  * One call up to JOINING on one of the two. The number is a grant's n, an
- * open's key, else a mem; a resize has its n beside it, which the others pass
- * by.
+ * open's key, else a mem; a resize has its n beside it and an open its edition,
+ * which the others pass by.
  */
 struct second_answer call_ours(struct lent *l, enum call call,
                                uint64_t number, uint64_t n);
@@ -64,6 +64,7 @@ bool is_sound(const struct lent *l); /* by the archive's audit */
 /* One call on both, all bytes compared after it; the archive's answer. */
 struct second_answer both(struct pair *p, enum call call, uint64_t number);
 struct second_answer both_resize(struct pair *p, uint64_t mem, uint64_t n);
+struct second_answer both_open(struct pair *p, uint64_t key, uint32_t edition);
 struct second_fault both_audits(struct pair *p);
 
 /* As both, for a call that must be refused with no and write nothing. */
@@ -73,8 +74,10 @@ void refused_resize(struct pair *p, uint64_t mem, uint64_t n, uint32_t no);
 struct pair pair_new(uint64_t seed, struct random r, size_t length);
 void pair_free(struct pair *p);
 void same_start(struct pair *p); /* copies the archive's heap to the other */
-void open_with(struct pair *p, uint64_t key); /* over random bytes */
-void open_pair(struct pair *p);               /* so, with a random key */
+
+/* Over random bytes; so, with a random key and in a random edition. */
+void open_with(struct pair *p, uint64_t key, uint32_t edition);
+void open_pair(struct pair *p);
 struct pair opened(uint64_t seed, size_t length);
 
 /* The second word of the chunk at c: its key, if it is cached. */

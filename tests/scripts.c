@@ -14,8 +14,9 @@
 #include "random_heap.h"
 
 #define ARENA_MOST 49152
-#define RECORD_BYTES 1580
+#define RECORD_BYTES 1584
 #define KEY 0 /* as heaplog has it */
+#define EDITION 1
 #define CALLS_MOST 300
 #define TEXT_MOST 400000
 
@@ -125,7 +126,7 @@ static void good_script(struct random *r)
     live_count = 0;
     length = random_chance(r, 40) ? random_length(r, ARENA_MOST)
                                   : 16 * (2 + random_below(r, 3071));
-    second_open(arena, length, record, RECORD_BYTES, KEY);
+    second_open(arena, length, record, RECORD_BYTES, KEY, EDITION);
     add_call(r, 'A', length);
     for (uint32_t i = 0; i < calls; i++) {
         if (random_chance(r, 3)) {

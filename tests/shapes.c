@@ -12,10 +12,10 @@
 
 /* ---- shapes ---- */
 
-/* A refused open leaves this in a record of 1,580 bytes, whatever the key. */
+/* A refused open leaves this in a record of 1,584 bytes, whatever it is. */
 static bool is_closed(const uint8_t *record)
 {
-    for (unsigned word = 0; word < 395; word++) {
+    for (unsigned word = 0; word < 396; word++) {
         bool zero = word == 0 || (word >= 67 && word < 131) || word >= 393;
         if (plain_word(record, word) != (zero ? 0 : PLAIN_NONE32))
             return false;
@@ -50,7 +50,7 @@ void refused_shape(struct random *r, enum call call, size_t length,
     uint64_t number = extreme(random_below(r, EXTREMES));
     uint64_t n = extreme(random_below(r, EXTREMES));
     struct second_answer a = { 1, 0, 0 };
-    bool closes = call == OPEN && record_len == 1580;
+    bool closes = call == OPEN && record_len == 1584;
 
     tempt(r, &ours);
     memcpy(before.arena, ours.arena, length);
@@ -93,14 +93,14 @@ void bad_shapes(void)
                                      262128 + 8,  262143, 262145, 262152,
                                      262160, 262176, 524288 };
     static const size_t good[] = { 32, 48, 4096, 262144 };
-    static const size_t record_len[] = { 0, 1, 4, 1568, 1572, 1576, 1579,
-                                         1581, 1584, 1588, 3160 };
+    static const size_t record_len[] = { 0, 1, 4, 1572, 1576, 1580, 1583,
+                                         1585, 1588, 1592, 3168 };
     struct random r = { 11 };
 
     group("bad shapes: refused with 1, nothing written but a closed record");
     for (unsigned call = OPEN; call <= AUDIT; call++) {
         for (unsigned i = 0; i < sizeof length / sizeof length[0]; i++) {
-            refused_shape(&r, call, length[i], 1580);
+            refused_shape(&r, call, length[i], 1584);
             for (unsigned j = 0; j < 11; j++)
                 refused_shape(&r, call, length[i], record_len[j]);
         }
@@ -127,10 +127,10 @@ void lengths_past_32_bits(void)
     for (unsigned call = GRANT; call <= AUDIT; call++)
         for (unsigned i = 0; i < 3; i++) {
             struct lent l = i == 0 ? near
-                : (struct lent){ far, near.record, past + 64, 1580 };
+                : (struct lent){ far, near.record, past + 64, 1584 };
             if (i != 1) {
                 l.record = far;
-                l.record_len = past + 1580;
+                l.record_len = past + 1584;
             }
             uint32_t no = call == AUDIT ? audit_ours(&l).no
                                         : call_ours(&l, call, 16, 24).no;
@@ -138,38 +138,107 @@ void lengths_past_32_bits(void)
             CHECK(no == 1, "%s of lengths %zu and %zu answered %u, not 1",
                   call_name[call], l.length, l.record_len, no);
         }
-    struct lent l = { far, near.record, past + 64, 1580 };
+    struct lent l = { far, near.record, past + 64, 1584 };
     CHECK(call_ours(&l, OPEN, UINT64_MAX, 0).no == 1 && is_closed(near.record),
           "open of a length past 32 bits is not refused with 1");
     munmap(far, most);
     give_back(&near);
 }
 
+/* With that number: by a length, or by the edition. */
+static void closed_heap(size_t length, unsigned no)
+{
+    struct pair p = opened(length, length);
+
+    p.ours.length = p.theirs.length = no == 1 ? 16 : length;
+    struct second_answer a = both_open(&p, UINT64_MAX, no == 1 ? 1 : 3);
+    p.ours.length = p.theirs.length = length;
+    CHECK(a.no == no, "an open is answered %u, not %u", a.no, no);
+    CHECK(is_closed(p.ours.record), "a refused open leaves no closed "
+          "record, arena of %zu", length);
+    CHECK(same_fault(audit_ours(&p.ours), (struct second_fault){ 0, 1, 0 }),
+          "the audit of a closed record does not name the record");
+    refused(&p, GRANT, 0, 3);
+    refused(&p, RELEASE, 0, 3);
+    refused_resize(&p, 0, 24, 3);
+    refused_resize(&p, 16, 24, 3);
+    refused_resize(&p, 16, 0, 3);
+    refused(&p, EMPTYING, 0, 3);
+    refused(&p, JOINING, 0, 3);
+    refused(&p, GRANT, 262145, 2);
+    refused_resize(&p, 0, 262145, 2);
+    refused_resize(&p, 16, 262145, 2);
+    open_pair(&p);
+    pair_free(&p);
+}
+
 void closed_heaps(void)
 {
     group("after a refused open every call but open is refused with 3");
-    for (size_t length = 32; length <= 262144; length *= 2) {
-        struct pair p = opened(length, length);
-        p.ours.length = p.theirs.length = 16;
-        both(&p, OPEN, UINT64_MAX);
-        p.ours.length = p.theirs.length = length;
-        CHECK(is_closed(p.ours.record), "a refused open leaves no closed "
-              "record, arena of %zu", length);
-        CHECK(same_fault(audit_ours(&p.ours), (struct second_fault){ 0, 1, 0 }),
-              "the audit of a closed record does not name the record");
-        refused(&p, GRANT, 0, 3);
-        refused(&p, RELEASE, 0, 3);
-        refused_resize(&p, 0, 24, 3);
-        refused_resize(&p, 16, 24, 3);
-        refused_resize(&p, 16, 0, 3);
-        refused(&p, EMPTYING, 0, 3);
-        refused(&p, JOINING, 0, 3);
-        refused(&p, GRANT, 262145, 2);
-        refused_resize(&p, 0, 262145, 2);
-        refused_resize(&p, 16, 262145, 2);
-        open_pair(&p);
-        pair_free(&p);
-    }
+    for (size_t length = 32; length <= 262144; length *= 2)
+        for (unsigned no = 1; no <= 12; no += 11)
+            closed_heap(length, no);
+}
+
+/* ---- editions ---- */
+
+static bool untouched(const uint8_t *bytes, size_t length)
+{
+    for (size_t i = 0; i < length; i++)
+        if (bytes[i] != 0x3c)
+            return false;
+    return true;
+}
+
+/* In an arena and a record of any lengths; 1 comes first. */
+static void refused_edition(size_t length, size_t record_len, uint32_t edition)
+{
+    bool shaped = length >= 32 && length <= 262144 && length % 16 == 0
+        && record_len == 1584;
+    struct lent ours = lend_shape(length, record_len);
+    struct lent theirs = lend_shape(length, record_len);
+    uint64_t key = 0x0123456789abcdef;
+
+    memset(ours.arena, 0x3c, length);
+    memset(ours.record, 0x3c, record_len);
+    memset(theirs.arena, 0x3c, length);
+    memset(theirs.record, 0x3c, record_len);
+    struct second_answer a = call_ours(&ours, OPEN, key, edition);
+    struct second_answer b = call_theirs(&theirs, OPEN, key, edition);
+    tally.calls++;
+    tally.refused[a.no <= 12 ? a.no : 0]++;
+    CHECK(same_answer(a, b) && a.no == (shaped ? 12 : 1) && a.mem == 0
+              && a.usable == 0,
+          "open of %zu and %zu with edition %u answered %u %u %u", length,
+          record_len, edition, a.no, a.mem, a.usable);
+    CHECK(untouched(ours.arena, length) && untouched(theirs.arena, length),
+          "a refused open of %zu wrote in the arena", length);
+    CHECK(memcmp(ours.record, theirs.record, record_len) == 0
+              && (record_len == 1584 ? is_closed(ours.record)
+                                     : untouched(ours.record, record_len)),
+          "open of %zu and %zu with edition %u leaves another record", length,
+          record_len, edition);
+    give_back(&ours);
+    give_back(&theirs);
+}
+
+void bad_editions(void)
+{
+    static const uint32_t edition[] = { 0, 3, 4, 255, 256, 257, 258, 513, 65537,
+                                        65538, 0x01000000, 0x02000000,
+                                        0x80000001, 0x80000002, 0xfffffffe,
+                                        0xffffffff };
+    static const size_t length[] = { 0, 16, 31, 32, 40, 48, 4096, 262144,
+                                     262160 };
+    static const size_t record_len[] = { 0,    1572, 1580, 1583,
+                                         1584, 1585, 1588 };
+
+    group("an edition other than 1 and 2 is refused with 12, after 1");
+    for (unsigned e = 0; e < sizeof edition / sizeof edition[0]; e++)
+        for (unsigned i = 0; i < sizeof length / sizeof length[0]; i++)
+            for (unsigned j = 0; j < sizeof record_len / sizeof record_len[0];
+                 j++)
+                refused_edition(length[i], record_len[j], edition[e]);
 }
 
 /* ---- extreme numbers ---- */

@@ -26,6 +26,12 @@ static struct plain_view view;
 
 static uint8_t file[HEAP_IMAGE_BYTES(HEAP_ARENA_MAX)];
 
+/* Where the arena stands in the image. */
+static size_t arena_at(void)
+{
+    return file[3] == 1 ? 1581 : file[3] <= 3 ? 1589 : 1593;
+}
+
 static void the_call(void)
 {
     size_t file_len = HEAP_IMAGE_BYTES(now.heap->length);
@@ -35,19 +41,20 @@ static void the_call(void)
     else if (now.call == WRITE_IMAGE)
         write_ours(now.heap, file, file_len);
     else if (now.call == READ_IMAGE)
-        read_ours(file, file[3] == 1 ? file_len - 8 : file_len, now.heap);
+        read_ours(file, arena_at() + now.heap->length, now.heap);
     else
         call_ours(now.heap, now.call, now.number, now.n);
 }
 
 /*
- * The image that was written becomes one of version 2, and that one of version
- * 1: no key in its record.
+ * The image that was written becomes one of version 3, without the edition in
+ * its record, that one of version 2, and that one of version 1: no key either.
  */
 static void make_older(size_t length)
 {
-    if (--file[3] == 1)
-        memmove(file + 1581, file + 1589, length);
+    size_t at = arena_at();
+    file[3]--;
+    memmove(file + arena_at(), file + at, length);
 }
 
 /* x86-64: the stack pointer is kept in a register that the callee keeps. */
@@ -106,6 +113,8 @@ static void take_any(struct random *r, struct lent *heap, enum call call,
                                  : random_below(r, (uint32_t)heap->length / 4);
     if ((call == RELEASE || call == RESIZE) && random_chance(r, 80))
         now.number = some_live(r, heap);
+    if (call == OPEN)
+        now.n = random_edition(r);
     take(seed);
 }
 
@@ -130,7 +139,7 @@ static void take_consolidating(unsigned i)
 {
     struct lent heap = lend(consolidating[i].length, PAINT);
 
-    call_ours(&heap, OPEN, 0, 0);
+    call_ours(&heap, OPEN, 0, 1 + i % 2);
     for (const uint32_t *n = consolidating[i].grant; *n != 0; n++)
         call_ours(&heap, GRANT, *n, 0);
     for (const uint32_t *mem = consolidating[i].release; *mem != 0; mem++)
@@ -160,7 +169,7 @@ void stack_taken(uint32_t rounds)
                          p.ours.record);
         take_any(&p.r, &p.ours, WRITE_IMAGE, i);
         take_any(&p.r, &p.ours, READ_IMAGE, i);
-        for (unsigned version = 2; version >= 1; version--) {
+        for (unsigned version = 3; version >= 1; version--) {
             make_older(p.ours.length);
             take_any(&p.r, &p.ours, READ_IMAGE, i);
         }

@@ -24,7 +24,7 @@ use Rattle.machine.specs.Audit.{lists, auditBy, auditOf}
 use Rattle.machine.specs.declared.ListKind.{ListKind}
 use Rattle.machine.specs.declared.ListKind.the-variants.{Cache, Fast, Bin}
 use Rattle.machine.specs.declared.Audited.the-variants as A
-use Rattle.sound.specs.Relation.{MemBy, Homes, Good, SoundBy, Sound, chain, links, stand, falls, stackSize}
+use Rattle.sound.specs.Relation.{MemBy, Homes, Good, SoundBy, Sound, chainBy, links, stand, falls, stackSize}
 use Rattle.sound.specs.Tiles.{lt-or-le, tiled-split, tiled-join, Start, start, tiles-split, tiles-join}
 use Rattle.sound.specs.Lists.{links-chain}
 use Rattle.sound.specs.Homes.{falls-cong}
@@ -127,10 +127,13 @@ module _ (v : ℕ) (h : Heap) (w r : List ℕ) (a : 8 * length w ≤ 262144) (s 
     long = s .long;
     words = tiles-join w 0 (h .tiles) (tile (topSize h) 1 0 ∷ []) (s .tiles .words)
         (omega (arith, s .topP, s .tiles .top, s .long), λ e. absurd (omega (arith, e)), tt);
-    chains = stack-cases h (s .stacked) (λ k l. chain w l) (λ k b. cache-suit k b .1) (λ k b. fast-suit k b .1) (λ k. tt);
+    chains = stack-cases h (s .stacked) (λ k l. chainBy (h .edition) w l)
+        (λ k b. subst (λ (d : ℕ). chainBy d w (cache h k)) (s .edition) (cache-suit k b .1))
+        (λ k b. subst (λ (d : ℕ). chainBy d w (fast h k)) (s .edition) (fast-suit k b .1)) (λ k. tt);
     blinks = bin-cases h (s .bins) (s .none) (λ j l. links w none64 l none64) (λ j. tt) (λ j b c. sorted j b c .link);
     keys = λ z k x c m. cached k c .keys z x m ∙ s .key;
     key64 = omega (arith, s .key, b keyLow, b keyHigh);
+    edited = s .edited;
     skipped = λ z. bin-cases h (s .bins) (s .none) (λ j l. stand (skips j (λ x. sizeOf h x) l) w) (λ j. skips-empty j (λ x. sizeOf h x) w)
         (λ j b c. subst (λ (ws : List Write). stand ws w)
         (skips-cong j (λ x. sizeAt w x) (λ x. sizeOf h x) (bin h j) (λ x m. size-of x (bin-start h (s .own) j x m)))
@@ -175,7 +178,7 @@ module _ (v : ℕ) (h : Heap) (w r : List ℕ) (a : 8 * length w ≤ 262144) (s 
       top-size : topSize h ≡ sizeAt w (topOf h)
       top-size = omega (arith, s .tiles .top, s .long)
 
-  spelled-record : length r ≡ 395 → ((i : ℕ) → getD r i 0 < 2 ^ 32) → r ≡ recordOf h
+  spelled-record : length r ≡ 396 → ((i : ℕ) → getD r i 0 < 2 ^ 32) → r ≡ recordOf h
   spelled-record n b = record-ext h r (s .stacked) (s .bins) (record {
     all = n;
     len = s .len ∙ s .long;
@@ -188,6 +191,7 @@ module _ (v : ℕ) (h : Heap) (w r : List ℕ) (a : 8 * length w ≤ 262144) (s 
     lasts = λ j c d. last (binLast j) (bin h j) (λ x m. bin-start h (s .own) j x m) (sorted j c d .last);
     low = omega (arith, s .key, b keyLow, b keyHigh);
     high = omega (arith, s .key, b keyLow, b keyHigh);
+    edition = s .edition;
   })
     where
       head : (i : ℕ) (l : List ℕ) → ((x : ℕ) → 1 ≤ cnt x l → 1 ≤ cnt x (starts h)) → up (getD r i 0) ≡ hd none64 l → getD r i 0 ≡ hd none32 l
@@ -199,7 +203,7 @@ module _ (v : ℕ) (h : Heap) (w r : List ℕ) (a : 8 * length w ≤ 262144) (s 
 pub audit-good-by : (v : ℕ) (w r : List ℕ) → Arena w → auditBy v w r ≡ A.Sound → Good (view w r)
 audit-good-by v w r a e = spelled-good v (view w r) w r (a .small) (audit-spelled v w r e)
 
-pub audit-sound-by : (v : ℕ) (w r : List ℕ) → Arena w → length r ≡ 395 → ((i : ℕ) → getD r i 0 < 2 ^ 32) → auditBy v w r ≡ A.Sound → SoundBy v (view w r) w r
+pub audit-sound-by : (v : ℕ) (w r : List ℕ) → Arena w → length r ≡ 396 → ((i : ℕ) → getD r i 0 < 2 ^ 32) → auditBy v w r ≡ A.Sound → SoundBy v (view w r) w r
 audit-sound-by v w r a n b e =
     let s = audit-spelled v w r e in
     record { good = audit-good-by v w r a e; mem = spelled-mem v (view w r) w r (a .small) s b; rec = spelled-record v (view w r) w r (a .small) s n b }
@@ -246,7 +250,7 @@ module _ (v : ℕ) (h : Heap) (w r : List ℕ) (s : SoundBy v h w r) where
   cache-suits : (k : ℕ) → k < 64 → Suited v (Cache k) w r (cache h k)
   cache-suits k b = (
     ap up (recorded .heads k b) ∙ up-hd (cache h k) (λ x m. within x (stacks-in k x m)) .0,
-    s .mem .chains k,
+    subst (λ (d : ℕ). chainBy d w (cache h k)) (sym (recorded .edition)) (s .mem .chains k),
     cache-in v k w r none64 0 (cache h k) (record {
       own = λ x m. size-was x (stacks-in k x m) ∙ s .good .homes .stacked k x m ∙ stack-cache k b;
       counted = recorded .counts k b ∙ omega arith;
@@ -259,7 +263,7 @@ module _ (v : ℕ) (h : Heap) (w r : List ℕ) (s : SoundBy v h w r) where
   fast-suits : (k : ℕ) → k < 10 → Suited v (Fast k) w r (fast h k)
   fast-suits k b = (
     ap up (recorded .fasts k b) ∙ up-hd (fast h k) (λ x m. within x (stacks-in (64 + k) x m)) .0,
-    s .mem .chains (64 + k),
+    subst (λ (d : ℕ). chainBy d w (fast h k)) (sym (recorded .edition)) (s .mem .chains (64 + k)),
     fast-in v k w r none64 0 (fast h k) (record {
       own = λ x m. size-was x (stacks-in (64 + k) x m) ∙ s .good .homes .stacked (64 + k) x m ∙ stack-fast k;
       most = λ x m. omega (arith, size-was x (stacks-in (64 + k) x m), s .good .homes .quick (64 + k) x (omega arith) m);
@@ -311,6 +315,8 @@ module _ (v : ℕ) (h : Heap) (w r : List ℕ) (s : SoundBy v h w r) where
     top = recorded .top;
     rest = recorded .remainder;
     key = keyed;
+    edition = recorded .edition;
+    edited = s .mem .edited;
     tiles = tiled .0;
     stacked = s .good .shape .stacked74;
     bins = s .good .shape .binned127;
@@ -340,7 +346,7 @@ audit-complete-by v h w r s = spelled-audit v h w r (arena-small v h w r s) (sou
 pub audit-good : (w r : List ℕ) → Arena w → auditOf w r ≡ A.Sound → Good (view w r)
 audit-good = audit-good-by newest
 
-pub audit-sound : (w r : List ℕ) → Arena w → length r ≡ 395 → ((i : ℕ) → getD r i 0 < 2 ^ 32) → auditOf w r ≡ A.Sound → Sound (view w r) w r
+pub audit-sound : (w r : List ℕ) → Arena w → length r ≡ 396 → ((i : ℕ) → getD r i 0 < 2 ^ 32) → auditOf w r ≡ A.Sound → Sound (view w r) w r
 audit-sound = audit-sound-by newest
 
 pub audit-read : (h : Heap) (w r : List ℕ) → Sound h w r → view w r ≡ h

@@ -13,14 +13,15 @@ use Rattle.sizes.specs.Limits.{none64}
 use Rattle.sizes.specs.Layout.{fwdWord, keyLow}
 use Rattle.machine.specs.Lists.{both, cnt, cntAll, has?, without, minus, tabulate}
 use Rattle.machine.specs.Count.{without-cnt, without-length}
-use Rattle.machine.specs.View.{sizeAt, up, kindAt, headWord, chunksFrom, listAt, tilesOf}
+use Rattle.machine.specs.Mixing.{stored}
+use Rattle.machine.specs.View.{sizeAt, up, kindAt, headWord, chunksBy, editionIn, linksBy, listAt, tilesOf}
 use Rattle.machine.specs.Audit.{mayStand, mayEnd, goodFrom, skipsOk, listFault}
 use Rattle.machine.specs.declared.ListKind.{ListKind}
 use Rattle.machine.specs.declared.ListKind.the-variants.{Cache, Fast, Bin}
 use Rattle.machine.specs.declared.Audited.{Audited}
 use Rattle.machine.specs.declared.Audited.the-variants as A
 use Rattle.audit_lists.specs.Owns.{Numbered}
-use Rattle.audit_lists.specs.Linked.{listOf, KindWalk}
+use Rattle.audit_lists.specs.Linked.{linksIn, listOf, KindWalk}
 use Rattle.audit_lists.specs.Listed.{unmet, markOf, tailWord}
 use Rattle.audit_empty_lists.specs.Skips.{Empty, Skipped}
 use Rattle.audit_walks.specs.Tests.{not-sound}
@@ -105,15 +106,15 @@ pub record In (v : ℕ) (w r m : List ℕ) (k : ListKind) (i p q n c : ℕ) : Ty
   pub marks : Marks w m left b
   pub fuel : length left < f
   pub few : n + length left < length w
-  pub same : resume v w r k i left p n (chunksFrom f w c) (drop (suc i) (listsOf w r)) ≡ whole v w r
-  pub rest : minusAll (minus left (chunksFrom f w c)) (drop (suc i) (listsOf w r)) ≡ minusAll (startsOf w) (listsOf w r)
-  pub bins : (x : ℕ) → b x + binCnt k x (chunksFrom f w c) + cntAll x (drop (74 - suc i) (drop (suc i) (listsOf w r))) ≡ binnedOf w r x
+  pub same : resume v w r k i left p n (chunksBy (linksIn r k) f w c) (drop (suc i) (listsOf w r)) ≡ whole v w r
+  pub rest : minusAll (minus left (chunksBy (linksIn r k) f w c)) (drop (suc i) (listsOf w r)) ≡ minusAll (startsOf w) (listsOf w r)
+  pub bins : (x : ℕ) → b x + binCnt k x (chunksBy (linksIn r k) f w c) + cntAll x (drop (74 - suc i) (drop (suc i) (listsOf w r))) ≡ binnedOf w r x
   pub sized : (p ≡ none64 → ⊥) → q ≡ sizeAt w p
   pub part : (x : ℕ) → cnt x left ≤ cnt x (startsOf w)
   pub left₀ : List ℕ
   pub few₀ : length left₀ < length w
   pub part₀ : (x : ℕ) → cnt x left₀ ≤ cnt x (startsOf w)
-  pub begun : goodFrom v k w r left₀ none64 0 (listOf w r k) ≡ goodFrom v k w r left p n (chunksFrom f w c)
+  pub begun : goodFrom v k w r left₀ none64 0 (listOf w r k) ≡ goodFrom v k w r left p n (chunksBy (linksIn r k) f w c)
 
 pub lists-enter : (v : ℕ) (w r m : List ℕ) → Started w m → Out v w r m 0
 lists-enter v w r m s = record
@@ -145,12 +146,16 @@ pub list-begin : (v : ℕ) (w r m : List ℕ) (i q : ℕ) (k : ListKind) (c : �
 list-begin v w r m i q k c e g h o = rw (g, e) (list-enter v w r m i q h o)
 
 -- ---- one turn
-pub chunks-more : (f : ℕ) (w : List ℕ) (c : ℕ) → (c ≡ none64 → ⊥) → chunksFrom (suc f) w c ≡ c ∷ chunksFrom f w (getD w (fwdWord c) 0)
-chunks-more f w c n = rw (ne-eqb c none64 n, chunksFrom)
+-- the link x that was read from the word y of the chunk c as d says, which is how a list of the kind k is stored
+pub link-read : (r : List ℕ) (k : ListKind) (c x y d e : ℕ) → x ≡ stored d c y → d ≡ linksBy k e → e ≡ editionIn r → x ≡ stored (linksIn r k) c y
+link-read r k c x y d e f g h = f ∙ ap (λ (z : ℕ). stored z c y) (g ∙ ap (linksBy k) h)
 
-pub chunks-end : (f : ℕ) (w : List ℕ) (c : ℕ) → c ≡ none64 → chunksFrom f w c ≡ []
-chunks-end zero w c e = refl
-chunks-end (suc f) w c e = rw (eq-eqb c none64 e, chunksFrom)
+pub chunks-more : (d f : ℕ) (w : List ℕ) (c : ℕ) → (c ≡ none64 → ⊥) → chunksBy d (suc f) w c ≡ c ∷ chunksBy d f w (stored d c (getD w (fwdWord c) 0))
+chunks-more d f w c n = rw (ne-eqb c none64 n, chunksBy)
+
+pub chunks-end : (d f : ℕ) (w : List ℕ) (c : ℕ) → c ≡ none64 → chunksBy d f w c ≡ []
+chunks-end d zero w c e = refl
+chunks-end d (suc f) w c e = rw (eq-eqb c none64 e, chunksBy)
 
 resume-bad : (v : ℕ) (w r : List ℕ) (k : ListKind) (i : ℕ) (left : List ℕ) (p n c : ℕ) (l : List ℕ) (ls : List (List ℕ)) → both (has? c left) (mayStand v k w r p n c) ≡ false
     → resume v w r k i left p n (c ∷ l) ls ≡ A.List k
@@ -186,10 +191,10 @@ module _ (v : ℕ) (w r m : List ℕ) (k : ListKind) (i p q n c : ℕ) (o : In v
   list-bad : (m′ : List ℕ) → (c ≡ none64 → ⊥) → both (has? c (o .left)) (mayStand v k w r p n c) ≡ false → ListsDone v w r (A.List k) m′
   list-bad m′ ne e = go (o .f) (o .fuel) (o .same)
     where
-      go : (f : ℕ) → length (o .left) < f → resume v w r k i (o .left) p n (chunksFrom f w c) (drop (suc i) (listsOf w r)) ≡ whole v w r → ListsDone v w r (A.List k) m′
+      go : (f : ℕ) → length (o .left) < f → resume v w r k i (o .left) p n (chunksBy (linksIn r k) f w c) (drop (suc i) (listsOf w r)) ≡ whole v w r → ListsDone v w r (A.List k) m′
       go zero b s = absurd (not-suc-le-zero b)
       go (suc f) b s = record {
-        is = sym (ap (λ (l : List ℕ). resume v w r k i (o .left) p n l (drop (suc i) (listsOf w r))) (chunks-more f w c ne)
+        is = sym (ap (λ (l : List ℕ). resume v w r k i (o .left) p n l (drop (suc i) (listsOf w r))) (chunks-more (linksIn r k) f w c ne)
             ∙ resume-bad v w r k i (o .left) p n c _ _ e) ∙ s;
         marks = λ y. not-sound (A.List k) refl y;
       }
@@ -207,9 +212,12 @@ module _ (v : ℕ) (w r m : List ℕ) (k : ListKind) (i p q n c : ℕ) (o : In v
   list-misplaced t u m′ ne e z g y = list-bad m′ ne (ap (λ (x : Bool). both x (mayStand v k w r p n c)) (has-true t e z) ∙ sym g ∙ y)
 
   pub list-turn : (t u : Bool) (s : ℕ) → (c ≡ none64 → ⊥) → t ≡ unmet m c → t ≡ true → u ≡ mayStand v k w r p n c → u ≡ true → s ≡ sizeAt w c
-      → In v w r (set m (c / 16) (markOf k)) k i c s (n + 1) (getD w (fwdWord c) 0)
+      → In v w r (set m (c / 16) (markOf k)) k i c s (n + 1) (stored (linksIn r k) c (getD w (fwdWord c) 0))
   list-turn t u s ne e z d y sz = go (o .f) (o .fuel) (o .same) (o .rest) (o .bins) (o .begun)
     where
+      next : ℕ
+      next = stored (linksIn r k) c (getD w (fwdWord c) 0)
+
       tested : both (has? c (o .left)) (mayStand v k w r p n c) ≡ true
       tested = ap (λ (x : Bool). both x (mayStand v k w r p n c)) (has-true t e z) ∙ sym d ∙ y
 
@@ -220,14 +228,14 @@ module _ (v : ℕ) (w r m : List ℕ) (k : ListKind) (i p q n c : ℕ) (o : In v
       g = without-length c (o .left) has
 
       go : (f : ℕ) → length (o .left) < f
-          → resume v w r k i (o .left) p n (chunksFrom f w c) (drop (suc i) (listsOf w r)) ≡ whole v w r
-          → minusAll (minus (o .left) (chunksFrom f w c)) (drop (suc i) (listsOf w r)) ≡ minusAll (startsOf w) (listsOf w r)
-          → ((x : ℕ) → o .b x + binCnt k x (chunksFrom f w c) + cntAll x (drop (74 - suc i) (drop (suc i) (listsOf w r))) ≡ binnedOf w r x)
-          → goodFrom v k w r (o .left₀) none64 0 (listOf w r k) ≡ goodFrom v k w r (o .left) p n (chunksFrom f w c)
-          → In v w r (set m (c / 16) (markOf k)) k i c s (n + 1) (getD w (fwdWord c) 0)
+          → resume v w r k i (o .left) p n (chunksBy (linksIn r k) f w c) (drop (suc i) (listsOf w r)) ≡ whole v w r
+          → minusAll (minus (o .left) (chunksBy (linksIn r k) f w c)) (drop (suc i) (listsOf w r)) ≡ minusAll (startsOf w) (listsOf w r)
+          → ((x : ℕ) → o .b x + binCnt k x (chunksBy (linksIn r k) f w c) + cntAll x (drop (74 - suc i) (drop (suc i) (listsOf w r))) ≡ binnedOf w r x)
+          → goodFrom v k w r (o .left₀) none64 0 (listOf w r k) ≡ goodFrom v k w r (o .left) p n (chunksBy (linksIn r k) f w c)
+          → In v w r (set m (c / 16) (markOf k)) k i c s (n + 1) next
       go zero b a t u d = absurd (not-suc-le-zero b)
       go (suc f) b a t u d =
-          let h : chunksFrom (suc f) w c ≡ c ∷ chunksFrom f w (getD w (fwdWord c) 0) = chunks-more f w c ne in
+          let h : chunksBy (linksIn r k) (suc f) w c ≡ c ∷ chunksBy (linksIn r k) f w next = chunks-more (linksIn r k) f w c ne in
           let n1 : suc n ≡ n + 1 = omega arith in
           record {
             left = without c (o .left);
@@ -236,24 +244,24 @@ module _ (v : ℕ) (w r m : List ℕ) (k : ListKind) (i p q n c : ℕ) (o : In v
             marks = mark-step w m (o .left) (o .b) c k (o .marks) (sym e ∙ z);
             fuel = omega (arith, g);
             few = omega (arith, g, o .few);
-            same = subst (λ (y : ℕ). resume v w r k i (without c (o .left)) c y (chunksFrom f w (getD w (fwdWord c) 0)) (drop (suc i) (listsOf w r)) ≡ whole v w r) n1
+            same = subst (λ (y : ℕ). resume v w r k i (without c (o .left)) c y (chunksBy (linksIn r k) f w next) (drop (suc i) (listsOf w r)) ≡ whole v w r) n1
                 (sym (ap (λ (l : List ℕ). resume v w r k i (o .left) p n l (drop (suc i) (listsOf w r))) h
                 ∙ resume-more v w r k i (o .left) p n c _ _ tested) ∙ a);
             rest = sym (ap (λ (l : List ℕ). minusAll (minus (o .left) l) (drop (suc i) (listsOf w r))) h) ∙ t;
-            bins = λ x. omega (arith, u x, ap (λ (l : List ℕ). binCnt k x l) h, bin-more k x c (chunksFrom f w (getD w (fwdWord c) 0)));
+            bins = λ x. omega (arith, u x, ap (λ (l : List ℕ). binCnt k x l) h, bin-more k x c (chunksBy (linksIn r k) f w next));
             sized = λ _. sz;
             part = λ x. omega (arith, o .part x, without-cnt c (o .left) has x);
             left₀ = o .left₀;
             few₀ = o .few₀;
             part₀ = o .part₀;
-            begun = subst (λ (y : ℕ). goodFrom v k w r (o .left₀) none64 0 (listOf w r k) ≡ goodFrom v k w r (without c (o .left)) c y (chunksFrom f w (getD w (fwdWord c) 0))) n1
+            begun = subst (λ (y : ℕ). goodFrom v k w r (o .left₀) none64 0 (listOf w r k) ≡ goodFrom v k w r (without c (o .left)) c y (chunksBy (linksIn r k) f w next)) n1
                 (d ∙ ap (goodFrom v k w r (o .left) p n) h ∙ good-more v k w r (o .left) p n c _ tested);
           }
 
   -- where the list ends
   pub list-end-bad : (t : Bool) (m′ : List ℕ) → c ≡ none64 → t ≡ mayEnd k r p n → t ≡ false → ListsDone v w r (A.List k) m′
   list-end-bad t m′ e g z = record {
-    is = sym (ap (λ (y : List ℕ). resume v w r k i (o .left) p n y (drop (suc i) (listsOf w r))) (chunks-end (o .f) w c e)
+    is = sym (ap (λ (y : List ℕ). resume v w r k i (o .left) p n y (drop (suc i) (listsOf w r))) (chunks-end (linksIn r k) (o .f) w c e)
         ∙ end-false v w r k i (o .left) p n (drop (suc i) (listsOf w r)) (sym g ∙ z)) ∙ o .same;
     marks = λ y. not-sound (A.List k) refl y;
   }
@@ -262,12 +270,12 @@ module _ (v : ℕ) (w r m : List ℕ) (k : ListKind) (i p q n c : ℕ) (o : In v
   pub list-walked : (t : Bool) → TilesOk w 0 (tilesOf w) → 8 * length w ≤ 262144 → c ≡ none64 → t ≡ mayEnd k r p n → t ≡ true → KindWalk k w r
   unfolding goodFrom
   list-walked t ok small e g z =
-      good-walk v k w r (o .left₀) ok small (o .part₀) (o .few₀) (o .begun ∙ ap (goodFrom v k w r (o .left) p n) (chunks-end (o .f) w c e) ∙ sym g ∙ z)
+      good-walk v k w r (o .left₀) ok small (o .part₀) (o .few₀) (o .begun ∙ ap (goodFrom v k w r (o .left) p n) (chunks-end (linksIn r k) (o .f) w c e) ∙ sym g ∙ z)
 
   ended : (t u : Bool) → c ≡ none64 → t ≡ mayEnd k r p n → t ≡ true → u ≡ skipsOk v k w (listOf w r k)
       → elim u [ true ↦ listFault v w r (suc i) (o .left) (drop (suc i) (listsOf w r)) | false ↦ A.List k ] ≡ whole v w r
   ended t u e g z s =
-      sym (ap (λ (y : List ℕ). resume v w r k i (o .left) p n y (drop (suc i) (listsOf w r))) (chunks-end (o .f) w c e)
+      sym (ap (λ (y : List ℕ). resume v w r k i (o .left) p n y (drop (suc i) (listsOf w r))) (chunks-end (linksIn r k) (o .f) w c e)
       ∙ end-true v w r k i (o .left) p n (drop (suc i) (listsOf w r)) u (sym g ∙ z) (sym s)) ∙ o .same
 
   pub list-unlinked : (t u : Bool) (m′ : List ℕ) → c ≡ none64 → t ≡ mayEnd k r p n → t ≡ true → u ≡ skipsOk v k w (listOf w r k) → u ≡ false → ListsDone v w r (A.List k) m′
@@ -276,7 +284,7 @@ module _ (v : ℕ) (w r m : List ℕ) (k : ListKind) (i p q n c : ℕ) (o : In v
   pub list-leave : (t u : Bool) → c ≡ none64 → t ≡ mayEnd k r p n → t ≡ true → u ≡ skipsOk v k w (listOf w r k) → u ≡ true → Out v w r m (i + 1)
   list-leave t u e g z s y =
       let i1 : suc i ≡ i + 1 = omega arith in
-      let d : chunksFrom (o .f) w c ≡ [] = chunks-end (o .f) w c e in
+      let d : chunksBy (linksIn r k) (o .f) w c ≡ [] = chunks-end (linksIn r k) (o .f) w c e in
       subst (λ (y : ℕ). Out v w r m y) i1 (record {
         left = o .left;
         b = o .b;
@@ -293,7 +301,7 @@ list-empty : (v : ℕ) (w r m : List ℕ) (i : ℕ) → i < 200 → Empty r (kin
 unfolding listOf
 list-empty v w r m i h e o =
     list-leave v w r m (kindAt i) i none64 0 0 (up (getD r (headWord (kindAt i)) 0)) (list-enter v w r m i 0 h o) true true (e .0) (sym (e .1)) refl
-    (sym (ap (skipsOk v (kindAt i) w) (chunks-end (length w) w (up (getD r (headWord (kindAt i)) 0)) (e .0)) ∙ skips-none v (kindAt i) w)) refl
+    (sym (ap (skipsOk v (kindAt i) w) (chunks-end (linksIn r (kindAt i)) (length w) w (up (getD r (headWord (kindAt i)) 0)) (e .0)) ∙ skips-none v (kindAt i) w)) refl
 
 pub list-skip : (v : ℕ) (w r m : List ℕ) (i j : ℕ) → Skipped r i j → Out v w r m i → Out v w r m j
 list-skip v w r m i j s o = go (j - i) i (omega (arith, s .low)) s o

@@ -2,6 +2,8 @@
 -- read. The parts of the audit put together. Assumes nothing.
 use mathlib.Core.Path.{_≡_, refl, sym, ap, _∙_, subst}
 use mathlib.Core.List.{List, [], _∷_, _++_}
+use mathlib.Core.Bool.{true}
+use mathlib.Core.Logic.{_⊎_, inl, inr, ⊎-elim}
 use Prim.Native.Nat.{ℕ, zero, suc, _+_, _*_, _≤_, _<_}
 use native.Mathlib.Nat.{not-suc-le-zero}
 use native.Mathlib.Omega.{arith}
@@ -9,16 +11,18 @@ use lib.Dec.{eqb}
 use lib.ListN.{length, getD, take, drop, length-append, length-drop}
 use lib.Seq.{take-at, drop-at}
 use borrow.Author.Tests.{eqb-true, eq-eqb}
+use Rattle.sizes.specs.Limits.{plain, mixed}
 use Rattle.sizes.specs.Layout.{lengthWord, topWord, remainderWord}
-use Rattle.machine.specs.Lists.{cnt, cntAll, tabulate}
+use Rattle.machine.specs.Lists.{both, cnt, cntAll, tabulate}
 use Rattle.machine.specs.Count.{pigeons}
 use Rattle.machine.specs.Heap.{Heap, starts, topOf, topSize, total, binned, bin}
-use Rattle.machine.specs.View.{lowAt, tileAt, tilesFrom, tilesOf, listAt, stacksOf, binsOf, keyIn, view}
-use Rattle.machine.specs.Audit.{recordFault, tileFault, listFault, lists, faultIn, auditBy}
+use Rattle.machine.specs.View.{lowAt, tileAt, tilesFrom, tilesOf, listAt, stacksOf, binsOf, keyIn, editionIn, view}
+use Rattle.machine.specs.Audit.{edition?, recordFault, tileFault, listFault, lists, faultIn, auditBy}
 use Rattle.machine.specs.declared.Audited.the-variants as A
 use Rattle.sound.specs.Relation.{all, flags}
 use Rattle.sound.specs.Tiles.{Start, start, starts-once}
-use Rattle.audit_walks.specs.Tests.{sound-if, first-sound}
+use Rattle.sound.specs.Release.{both-true}
+use Rattle.audit_walks.specs.Tests.{sound-if, first-sound, either-true, either-left, either-right}
 use Rattle.audit_walks.specs.Tiles.{TilesOk, tiles-sound, tiles-read, tiles-complete, few, end-no-start}
 use Rattle.audit.specs.Lists.{suitAll, minusAll, lists-sound, lists-complete, lists-read}
 use Rattle.audit.specs.Flags.{flags-sound, flags-complete}
@@ -29,6 +33,8 @@ pub record Spelled (v : ℕ) (h : Heap) (w r : List ℕ) : Type 0 where
   pub top : getD r topWord 0 ≡ topOf h
   pub rest : getD r remainderWord 0 ≡ h .remainder
   pub key : keyIn r ≡ h .key
+  pub edition : editionIn r ≡ h .edition
+  pub edited : (h .edition ≡ plain) ⊎ (h .edition ≡ mixed)
   pub tiles : TilesOk w 0 (h .tiles)
   pub stacked : length (h .stacks) ≡ 74
   pub bins : length (h .bins) ≡ 127
@@ -95,11 +101,20 @@ pub listsOf-sound : (v : ℕ) (w r left : List ℕ) → length left < length w �
 unfolding listsOf
 listsOf-sound v w r left b e = lists-sound v 200 0 w r left b e
 
+-- an edition is one of two
+pub edition-out : (d : ℕ) → edition? d ≡ true → (d ≡ plain) ⊎ (d ≡ mixed)
+edition-out d e = ⊎-elim (λ z. inl (eqb-true d plain z)) (λ z. inr (eqb-true d mixed z)) (either-true (eqb d plain) (eqb d mixed) e)
+
+pub edition-in : (d : ℕ) → (d ≡ plain) ⊎ (d ≡ mixed) → edition? d ≡ true
+edition-in d e = ⊎-elim (λ z. either-left (eqb d plain) _ (eq-eqb d plain z)) (λ z. either-right (eqb d plain) _ (eq-eqb d mixed z)) e
+
 pub audit-spelled : (v : ℕ) (w r : List ℕ) → auditBy v w r ≡ A.Sound → Spelled v (view w r) w r
 unfolding auditBy tilesOf
 audit-spelled v w r e =
     let h : Heap = view w r in
     let e₁ = first-sound (recordFault w r) _ e in
+    let re = both-true (eqb (getD r lengthWord 0) (8 * length w)) (edition? (editionIn r))
+    (sound-if (both (eqb (getD r lengthWord 0) (8 * length w)) (edition? (editionIn r))) A.Sound A.Record refl (e₁ .0) .0) in
     let e₂ = first-sound (tileFault w (getD r topWord 0) 0 (h .tiles)) _ (e₁ .1) in
     let e₃ = first-sound (listFault v w r 0 (starts h) (lists h)) _ (e₂ .1) in
     let t = tiles-sound (length w) w (getD r topWord 0) 0 (e₂ .0) in
@@ -110,11 +125,13 @@ audit-spelled v w r e =
     (λ x. omega (arith, own x, starts-once (h .tiles) 0 x (t .0 .sizes)))
     (omega (arith, own (topOf h), end-no-start (h .tiles) 0 (t .0 .sizes))) (omega arith) (t .0 .notes) (e₃ .1) in
     record {
-      len = eqb-true (getD r lengthWord 0) (8 * length w) (sound-if (eqb (getD r lengthWord 0) (8 * length w)) A.Sound A.Record refl (e₁ .0) .0);
+      len = eqb-true (getD r lengthWord 0) (8 * length w) (re .0);
       long = refl;
       top = t .1;
       rest = refl;
       key = refl;
+      edition = refl;
+      edited = edition-out (editionIn r) (re .1);
       tiles = t .0;
       stacked = stacksOf-length w r;
       bins = ap suc (binsOf-length w r);
@@ -139,8 +156,9 @@ listsOf-read : (w r : List ℕ) (ls : List (List ℕ)) → length ls ≡ 200 →
 unfolding listsOf
 listsOf-read w r ls e g = subst (λ (n : ℕ). tabulate n (listAt w r) 0 ≡ ls) e g
 
-made : (h : Heap) (w r : List ℕ) → 8 * length w ≡ h .len → tilesOf w ≡ h .tiles → stacksOf w r ≡ h .stacks → [] ∷ binsOf w r ≡ h .bins → getD r remainderWord 0 ≡ h .remainder → keyIn r ≡ h .key → view w r ≡ h
-made h w r a b c d e f = rw (a, b, c, d, e, f)
+made : (h : Heap) (w r : List ℕ) → 8 * length w ≡ h .len → tilesOf w ≡ h .tiles → stacksOf w r ≡ h .stacks → [] ∷ binsOf w r ≡ h .bins → getD r remainderWord 0 ≡ h .remainder → keyIn r ≡ h .key → editionIn r ≡ h .edition
+    → view w r ≡ h
+made h w r a b c d e f g = rw (a, b, c, d, e, f, g)
 
 pub spelled-read : (v : ℕ) (h : Heap) (w r : List ℕ) → 8 * length w ≤ 262144 → Spelled v h w r → view w r ≡ h
 unfolding tilesOf
@@ -157,16 +175,17 @@ spelled-read v h w r a s =
     sym (take-at (stacksOf w r) (binsOf w r) 74 (stacksOf-length w r)) ∙ ap (take 74) e ∙ take-at (h .stacks) (drop 1 (h .bins)) 74 (s .stacked) in
     let eb : binsOf w r ≡ drop 1 (h .bins) =
     sym (drop-at (stacksOf w r) (binsOf w r) 74 (stacksOf-length w r)) ∙ ap (drop 74) e ∙ drop-at (h .stacks) (drop 1 (h .bins)) 74 (s .stacked) in
-    made h w r (s .long) et es (ap (λ (bs : List (List ℕ)). [] ∷ bs) eb ∙ cons-first (h .bins) (omega (arith, s .bins)) (s .none)) (s .rest) (s .key)
+    made h w r (s .long) et es (ap (λ (bs : List (List ℕ)). [] ∷ bs) eb ∙ cons-first (h .bins) (omega (arith, s .bins)) (s .none)) (s .rest) (s .key) (s .edition)
 
 -- ---- and the audit answers sound
 no-fault : (v : ℕ) (h : Heap) (w r : List ℕ) → Spelled v h w r → faultIn v h w r ≡ A.Sound
 no-fault v h w r s =
     rw (eq-eqb (getD r lengthWord 0) (8 * length w) (s .len), recordFault)
+    (rw (ap edition? (s .edition) ∙ edition-in (h .edition) (s .edited))
     (rw (s .top)
     (rw (tiles-complete w 0 (h .tiles) (s .tiles))
     (rw (lists-complete v 0 w r (starts h) (lists h) (s .listed) (λ x. omega (arith, total-lists x h (s .none), s .own x)))
-    (flags-complete (binned h) (tileAt w (topOf h)) (topSize h) 0 0 0 (h .tiles) (s .topP) (s .flagged)))))
+    (flags-complete (binned h) (tileAt w (topOf h)) (topSize h) 0 0 0 (h .tiles) (s .topP) (s .flagged))))))
 
 pub spelled-audit : (v : ℕ) (h : Heap) (w r : List ℕ) → 8 * length w ≤ 262144 → Spelled v h w r → auditBy v w r ≡ A.Sound
 unfolding auditBy

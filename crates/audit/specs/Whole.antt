@@ -11,8 +11,8 @@ use borrow.Author.Tests.{eq-eqb, ne-eqb, lt-ltb, ltb-true}
 use Rattle.sizes.specs.Layout.{lengthWord, topWord}
 use Rattle.machine.specs.Lists.{both, cnt, cntAll}
 use Rattle.machine.specs.Heap.{endFrom, total, binned, live?}
-use Rattle.machine.specs.View.{tileAt, tilesOf, view}
-use Rattle.machine.specs.Audit.{sound?, first, recordFault, tileFault, listFault, flagFault, auditBy}
+use Rattle.machine.specs.View.{tileAt, tilesOf, editionIn, view}
+use Rattle.machine.specs.Audit.{sound?, first, edition?, recordFault, tileFault, listFault, flagFault, auditBy}
 use Rattle.machine.specs.declared.Audited.{Audited}
 use Rattle.machine.specs.declared.Audited.the-variants as A
 use Rattle.sound.specs.Tiles.{starts-once}
@@ -49,6 +49,10 @@ flagging w r t m d z =
     let k = tiles-sound (length w) w (getD r topWord 0) 0 (sym (d .is) ∙ z) in
     record { tiles = k .0; atTop = k .1 }
 
+-- the record says the arena's length, and an edition that there is
+abbrev pub Told : List ℕ → List ℕ → Type 0
+Told w r = (getD r lengthWord 0 ≡ 8 * length w) × (edition? (editionIn r) ≡ true)
+
 module _ (v : ℕ) (w r : List ℕ) where
   in-parts : auditBy v w r ≡ first (recordFault w r) (tilePart v w r)
   unfolding auditBy
@@ -60,22 +64,28 @@ module _ (v : ℕ) (w r : List ℕ) where
       rec : recordFault w r ≡ A.Record
       rec = rw (ne-eqb (getD r lengthWord 0) (8 * length w) n, recordFault)
 
-  record-ok : getD r lengthWord 0 ≡ 8 * length w → auditBy v w r ≡ tilePart v w r
+  pub audit-edition : (m : List ℕ) → getD r lengthWord 0 ≡ 8 * length w → edition? (editionIn r) ≡ false → AuditDone v w r A.Record m
+  audit-edition m e n = record { is = sym (in-parts ∙ ap (λ (z : Audited). first z (tilePart v w r)) rec); live = λ e. not-sound A.Record refl e }
+    where
+      rec : recordFault w r ≡ A.Record
+      rec = rw (eq-eqb (getD r lengthWord 0) (8 * length w) e, recordFault) (rw n)
+
+  record-ok : Told w r → auditBy v w r ≡ tilePart v w r
   record-ok e = in-parts ∙ ap (λ (z : Audited). first z (tilePart v w r)) rec
     where
       rec : recordFault w r ≡ A.Sound
-      rec = rw (eq-eqb (getD r lengthWord 0) (8 * length w) e, recordFault)
+      rec = rw (eq-eqb (getD r lengthWord 0) (8 * length w) (e .0), recordFault) (rw (e .1))
 
-  pub audit-tile : (t : Audited) (m m′ : List ℕ) → getD r lengthWord 0 ≡ 8 * length w → TilesDone w (getD r topWord 0) t m → sound? t ≡ false → AuditDone v w r t m′
+  pub audit-tile : (t : Audited) (m m′ : List ℕ) → Told w r → TilesDone w (getD r topWord 0) t m → sound? t ≡ false → AuditDone v w r t m′
   audit-tile t m m′ e d z = record {
     is = sym (record-ok e ∙ ap (λ (x : Audited). first x (listPart v w r)) (sym (d .is)) ∙ first-fault t (listPart v w r) z);
     live = λ f. not-sound t z f;
   }
 
-  tiles-ok : (t : Audited) (m : List ℕ) → getD r lengthWord 0 ≡ 8 * length w → TilesDone w (getD r topWord 0) t m → t ≡ A.Sound → auditBy v w r ≡ listPart v w r
+  tiles-ok : (t : Audited) (m : List ℕ) → Told w r → TilesDone w (getD r topWord 0) t m → t ≡ A.Sound → auditBy v w r ≡ listPart v w r
   tiles-ok t m e d z = record-ok e ∙ ap (λ (x : Audited). first x (listPart v w r)) (sym (d .is) ∙ z)
 
-  pub audit-list : (t l : Audited) (m m′ m″ : List ℕ) → getD r lengthWord 0 ≡ 8 * length w → TilesDone w (getD r topWord 0) t m → t ≡ A.Sound → ListsDone v w r l m′ → sound? l ≡ false
+  pub audit-list : (t l : Audited) (m m′ m″ : List ℕ) → Told w r → TilesDone w (getD r topWord 0) t m → t ≡ A.Sound → ListsDone v w r l m′ → sound? l ≡ false
       → AuditDone v w r l m″
   audit-list t l m m′ m″ e d z k y = record {
     is = sym (tiles-ok t m e d z ∙ ap (λ (x : Audited). first x (flagPart w r)) (sym (k .is)) ∙ first-fault l (flagPart w r) y);
@@ -90,7 +100,7 @@ module _ (v : ℕ) (w r : List ℕ) where
       ∙ live-test (cnt x (minusAll (startsOf w) (listsOf w r))) (total x (view w r)) (cnt x (startsOf w))
       (omega (arith, c, total-lists x (view w r) refl, ap (cntAll x) (view-lists w r))) (starts-once (tilesOf w) 0 x (g .tiles .sizes))
 
-  pub audit-flag : (t l f : Audited) (m m′ : List ℕ) → getD r lengthWord 0 ≡ 8 * length w → TilesDone w (getD r topWord 0) t m → t ≡ A.Sound → ListsDone v w r l m′ → l ≡ A.Sound
+  pub audit-flag : (t l f : Audited) (m m′ : List ℕ) → Told w r → TilesDone w (getD r topWord 0) t m → t ≡ A.Sound → ListsDone v w r l m′ → l ≡ A.Sound
       → FlagsDone w m′ f → AuditDone v w r f m′
   audit-flag t l f m m′ e d z k y g = record {
     is = g (binned (view w r)) (λ x i. binned-later w r x ∙ bins-told w m′ _ (binnedOf w r) (k .marks y) x (d .marks z .marks .even x i))

@@ -11,5 +11,5 @@ clear-zeros zero i = refl
 clear-zeros (suc n) zero = refl
 clear-zeros (suc n) (suc i) = clear-zeros n i
 
-pub zeros-ask : (n : ℕ) (a r : List ℕ) → ArenaBytes a → length a ≤ 16 * n → length r ≡ 395 → Bytes a (replicate n 0) × (length r ≡ 395) × Clear (replicate n 0)
+pub zeros-ask : (n : ℕ) (a r : List ℕ) → ArenaBytes a → length a ≤ 16 * n → length r ≡ 396 → Bytes a (replicate n 0) × (length r ≡ 396) × Clear (replicate n 0)
 zeros-ask n a r b h e = (record { arena = b; room = omega (arith, length-replicate {A = ℕ} n 0) }, e, λ i. clear-zeros n i)

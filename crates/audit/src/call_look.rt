@@ -28,7 +28,7 @@ fn is_live(m: &[u8], mem: Mem) -> bool
 }
 
 fn look_with(a: &[u8], r: &[u32], m: &mut [u8], v: u32, mem: Mem) -> Look
-    requires { ⌜ Bytes (now a) (now m) × (length (now r) ≡ 395) × Clear (now m) ⌝ }
+    requires { ⌜ Bytes (now a) (now m) × (length (now r) ≡ 396) × Clear (now m) ⌝ }
     ensures { λ l. ⌜ l ≡ lookBy v (arenaWords (now (a .entry))) (now (r .entry)) (mem .0) ⌝ }
 {
     let f = audit_marks(a, r, m, v);
@@ -43,7 +43,7 @@ fn look_with(a: &[u8], r: &[u32], m: &mut [u8], v: u32, mem: Mem) -> Look
 
 // The marks are cleared in four sizes, never more bytes than the arena has, since an array has one length in this language.
 fn look_by(a: &[u8], r: &[u32], v: u32, mem: Mem) -> Look
-    requires { ⌜ ArenaBytes (now a) × (length (now r) ≡ 395) ⌝ }
+    requires { ⌜ ArenaBytes (now a) × (length (now r) ≡ 396) ⌝ }
     ensures { λ l. ⌜ l ≡ lookBy v (arenaWords (now (a .entry))) (now (r .entry)) (mem .0) ⌝ }
 {
     if a.len() <= 512 {
@@ -64,7 +64,7 @@ fn look_by(a: &[u8], r: &[u32], v: u32, mem: Mem) -> Look
 
 // By the newest rules.
 pub fn look_at(a: &[u8], r: &[u32], mem: Mem) -> Look
-    requires { ⌜ ArenaBytes (now a) × (length (now r) ≡ 395) ⌝ }
+    requires { ⌜ ArenaBytes (now a) × (length (now r) ≡ 396) ⌝ }
     ensures { λ l. ⌜ l ≡ lookAt (arenaWords (now (a .entry))) (now (r .entry)) (mem .0) ⌝ }
 {
     look_by(a, r, NEWEST, mem)
@@ -72,7 +72,7 @@ pub fn look_at(a: &[u8], r: &[u32], mem: Mem) -> Look
 
 // The audit by version v of the rules. The answer does not depend on the block that a look asks about.
 pub fn audit_by(a: &[u8], r: &[u32], v: u32) -> Audited
-    requires { ⌜ ArenaBytes (now a) × (length (now r) ≡ 395) ⌝ }
+    requires { ⌜ ArenaBytes (now a) × (length (now r) ≡ 396) ⌝ }
     ensures { λ f. ⌜ f ≡ auditBy v (arenaWords (now (a .entry))) (now (r .entry)) ⌝ }
 {
     match look_by(a, r, v, Mem(0)) {
@@ -83,7 +83,7 @@ pub fn audit_by(a: &[u8], r: &[u32], v: u32) -> Audited
 }
 
 pub fn audit_words(a: &[u8], r: &[u32]) -> Audited
-    requires { ⌜ ArenaBytes (now a) × (length (now r) ≡ 395) ⌝ }
+    requires { ⌜ ArenaBytes (now a) × (length (now r) ≡ 396) ⌝ }
     ensures { λ f. ⌜ f ≡ auditOf (arenaWords (now (a .entry))) (now (r .entry)) ⌝ }
 {
     audit_by(a, r, NEWEST)

@@ -11,10 +11,14 @@ pub use call_look::look_at;
 ghost use mathlib.Core.Path.{_≡_};
 ghost use lib.ListN.{length};
 ghost use Rattle.le.specs.Arena.{arenaWords};
+ghost use Rattle.machine.specs.Audit.{edition?};
 ghost use Rattle.audit_walks.specs.Marks.{Bytes, Clear};
 ghost use Rattle.audit.specs.Done.{AuditDone};
+use chunk_fields::edition_in;
 use machine::Audited;
 use sizes::Chunk;
+use sizes::MIXED;
+use sizes::PLAIN;
 
 // What a call finds before it writes.
 pub enum Look {
@@ -23,12 +27,22 @@ pub enum Look {
     Live,
 }
 
+// Whether there is an edition d.
+pub fn is_edition(d: u32) -> bool
+    ensures { λ r. ⌜ r ≡ edition? d ⌝ }
+{
+    d == PLAIN || d == MIXED
+}
+
 // The marks m, all clear and one for each 16 bytes of arena, are lent: in a sound heap the unmet chunks are then exactly the live blocks.
 pub fn audit_marks(a: &[u8], r: &[u32], m: &mut [u8], v: u32) -> Audited
-    requires { ⌜ Bytes (now a) (now m) × (length (now r) ≡ 395) × Clear (now m) ⌝ }
+    requires { ⌜ Bytes (now a) (now m) × (length (now r) ≡ 396) × Clear (now m) ⌝ }
     ensures { λ f. ⌜ AuditDone v (arenaWords (now (a .entry))) (now (r .entry)) f (now (m .exit)) ⌝ }
 {
     if r[sizes::LENGTH_WORD] as usize != a.len() {
+        return Audited::Record;
+    }
+    if !is_edition(edition_in(r)) {
         return Audited::Record;
     }
     let top = Chunk(r[sizes::TOP_WORD] as u64);

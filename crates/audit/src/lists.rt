@@ -6,20 +6,23 @@ ghost use Rattle.le.specs.Arena.{arenaWords};
 ghost use Rattle.audit_walks.specs.Marks.{Bytes, Started};
 ghost use Rattle.audit.specs.Done.{ListsDone};
 use chunk_fields::Link;
-use chunk_fields::fwd_at;
+use chunk_fields::edition_in;
 use chunk_fields::size_at;
+use chunk_fields::stack_link_at;
 use machine::Audited;
 use sizes::ALL_LISTS;
 use sizes::Chunk;
 use sizes::NONE64;
 
 // The first bad list by version v of the rules, or sound; marks each chunk of a list with the list's mark, u. x: the key that cached chunks are asked for;
-// o: the sizes that the list owns; c: the chunk at hand; p, q: the one before it and its size; n: how many came before.
+// o: the sizes that the list owns; d: how its links are stored; c: the chunk at hand; p, q: the one before it and its size; n: how many came before. No
+// link is held against none before it is unmixed.
 pub fn list_fault(a: &[u8], r: &[u32], m: &mut [u8], v: u32) -> Audited
-    requires { ⌜ Bytes (now a) (now m) × (length (now r) ≡ 395) × Started (arenaWords (now a)) (now m) ⌝ }
+    requires { ⌜ Bytes (now a) (now m) × (length (now r) ≡ 396) × Started (arenaWords (now a)) (now m) ⌝ }
     ensures { λ f. ⌜ ListsDone v (arenaWords (now (a .entry))) (now (r .entry)) f (now (m .exit)) ⌝ }
 {
     let x = audit_lists::asked_by(r, v);
+    let edition = edition_in(r);
     let mut fault = Audited::Sound;
     let mut i: u32 = 0;
     'lists: loop {
@@ -30,6 +33,7 @@ pub fn list_fault(a: &[u8], r: &[u32], m: &mut [u8], v: u32) -> Audited
         let k = audit_lists::kind_at(j);
         let u = audit_lists::mark(k);
         let o = audit_lists::owned_by(k);
+        let d = audit_lists::links_by(k, edition);
         let mut c = audit_lists::head(r, k);
         let mut p = Link(NONE64);
         let mut q: u64 = 0;
@@ -49,7 +53,7 @@ pub fn list_fault(a: &[u8], r: &[u32], m: &mut [u8], v: u32) -> Audited
             p = c;
             q = s;
             n += 1;
-            c = fwd_at(a, at);
+            c = stack_link_at(a, d, at);
         }
         if !audit_lists::may_end(r, k, p, n) {
             fault = Audited::List(k);

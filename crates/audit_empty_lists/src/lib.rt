@@ -55,7 +55,7 @@ fn eight_zero(r: &[u32], f: usize) -> bool
 
 // The first list from number i on that is not empty, or ALL_LISTS, where i is a bin's. Four at a time, whose words stand in a row, while there are four.
 fn skip_bins(r: &[u32], i: u32) -> u32
-    requires { ⌜ (length (now r) ≡ 395) × (74 ≤ i) × (i ≤ 200) ⌝ }
+    requires { ⌜ (length (now r) ≡ 396) × (74 ≤ i) × (i ≤ 200) ⌝ }
     ensures { λ j. ⌜ Skipped (now (r .entry)) i j ⌝ }
 {
     let mut b = bin_of_list(i);
@@ -70,7 +70,7 @@ fn skip_bins(r: &[u32], i: u32) -> u32
 
 // The same, bin by bin, in numbers of bins: from bin i on, a bin or the number after the last.
 fn skip_one_by_one(r: &[u32], i: usize) -> usize
-    requires { ⌜ (length (now r) ≡ 395) × (1 ≤ i) × (i ≤ 127) ⌝ }
+    requires { ⌜ (length (now r) ≡ 396) × (1 ≤ i) × (i ≤ 127) ⌝ }
     ensures { λ b. ⌜ Skipped (now (r .entry)) (i + 73) (b + 73) ⌝ }
 {
     let mut b = i;
@@ -90,7 +90,7 @@ fn skip_one_by_one(r: &[u32], i: usize) -> usize
 
 // The same where i is a fast list's or a bin's.
 fn skip_fast(r: &[u32], i: u32) -> u32
-    requires { ⌜ (length (now r) ≡ 395) × (64 ≤ i) × (i ≤ 200) ⌝ }
+    requires { ⌜ (length (now r) ≡ 396) × (64 ≤ i) × (i ≤ 200) ⌝ }
     ensures { λ j. ⌜ Skipped (now (r .entry)) i j ⌝ }
 {
     let mut j = i;
@@ -105,7 +105,7 @@ fn skip_fast(r: &[u32], i: u32) -> u32
 
 // The same; the first eight fast lists, whose words stand in a row, at once.
 fn skip_eight_fast(r: &[u32], i: u32) -> u32
-    requires { ⌜ (length (now r) ≡ 395) × (64 ≤ i) × (i ≤ 200) ⌝ }
+    requires { ⌜ (length (now r) ≡ 396) × (64 ≤ i) × (i ≤ 200) ⌝ }
     ensures { λ j. ⌜ Skipped (now (r .entry)) i j ⌝ }
 {
     if i == FAST_FROM {
@@ -118,7 +118,7 @@ fn skip_eight_fast(r: &[u32], i: u32) -> u32
 
 // The same, cache list by cache list, where i may be any list's.
 fn skip_caches(r: &[u32], i: u32) -> u32
-    requires { ⌜ (length (now r) ≡ 395) × (i ≤ 200) ⌝ }
+    requires { ⌜ (length (now r) ≡ 396) × (i ≤ 200) ⌝ }
     ensures { λ j. ⌜ Skipped (now (r .entry)) i j ⌝ }
 {
     let mut j = i;
@@ -137,7 +137,7 @@ fn skip_caches(r: &[u32], i: u32) -> u32
 // The first list from number i on that is not empty, or ALL_LISTS. From a bin on there are bins alone; before, eight cache lists at a time, while there are
 // eight.
 pub fn skip(r: &[u32], i: u32) -> u32
-    requires { ⌜ (length (now r) ≡ 395) × (i ≤ 200) ⌝ }
+    requires { ⌜ (length (now r) ≡ 396) × (i ≤ 200) ⌝ }
     ensures { λ j. ⌜ Skipped (now (r .entry)) i j ⌝ }
 {
     if BINS_FROM <= i {

@@ -17,14 +17,14 @@ use Rattle.audit_lists.specs.Linked.{headOf, listOf, KindWalk}
 
 -- ---- what is walked from the head x
 module _ (k : ListKind) (w r : List ℕ) (x : ℕ) (z : KindWalk k w r) (e : x ≡ headOf r k) where
-  pub list-walk : Walk w x (listOf w r k)
-  list-walk = subst (λ (y : ℕ). Walk w y (listOf w r k)) (sym e) (z .walk)
+  pub list-walk : (j : ℕ) → k ≡ Bin j → Walk w x (listOf w r k)
+  list-walk j b = subst (λ (y : ℕ). Walk w y (listOf w r k)) (sym e) (z .walk j b)
 
-  pub list-walked : Walked w x
-  list-walked = record { list = listOf w r k; walk = list-walk }
+  pub list-walked : (j : ℕ) → k ≡ Bin j → Walked w x
+  list-walked j b = record { list = listOf w r k; walk = list-walk j b }
 
   pub large-walk : (j : ℕ) → k ≡ Bin j → 64 ≤ j → LargeWalk w x (listOf w r k)
-  large-walk j b h = record { walk = list-walk; roomy = z .roomy j b h }
+  large-walk j b h = record { walk = list-walk j b; roomy = z .roomy j b h }
 
   pub large-walked : (j : ℕ) → k ≡ Bin j → 64 ≤ j → LargeWalked w x
   large-walked j b h = record { list = listOf w r k; walk = large-walk j b h }

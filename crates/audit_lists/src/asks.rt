@@ -21,7 +21,7 @@ pub struct Asked {
 
 // By version v of the rules, of a heap with the record r.
 pub fn asked_by(r: &[u32], v: u32) -> Asked
-    requires { ⌜ length (now r) ≡ 395 ⌝ }
+    requires { ⌜ length (now r) ≡ 396 ⌝ }
     ensures { λ x. ⌜ Asks v (now (r .entry)) (x .keyed) (x .key) ⌝ }
 {
     Asked {

@@ -1,5 +1,5 @@
-// What the audit asks of one list, each against its definition in the machine: its kind, its mark, its head and end in the record, the sizes it owns,
-// the key of its chunks, their skip links, whether a chunk was met. The loop over them stands in the crate audit. Assumes nothing.
+// What the audit asks of one list, each against its definition in the machine: its kind, its mark, how its links are stored, its head and end in the
+// record, the sizes it owns, the key of its chunks, their skip links, whether a chunk was met. The loop over them stands in the crate audit. Assumes nothing.
 mod owns; // owns.rt: which sizes a list owns
 mod asks; // asks.rt: which key a cached chunk is asked for
 mod stands; // stands.rt: whether a chunk may stand in a list
@@ -15,7 +15,7 @@ ghost use mathlib.Core.Path.{_≡_};
 ghost use Prim.Native.Nat.{_<_};
 ghost use lib.ListN.{length, getD};
 ghost use Rattle.sizes.specs.Layout.{keyLow};
-ghost use Rattle.machine.specs.View.{up, kindAt, headWord};
+ghost use Rattle.machine.specs.View.{up, kindAt, headWord, linksBy};
 ghost use Rattle.machine.specs.Audit.{mayEnd};
 ghost use Rattle.audit_lists.specs.Listed.{unmet, markOf, tailWord};
 use audit_walks::BINNED;
@@ -26,6 +26,7 @@ use chunk_fields::link_of;
 use machine::ListKind;
 use sizes::BINS_FROM;
 use sizes::FAST_FROM;
+use sizes::PLAIN;
 
 // The list of the audit's number i.
 pub fn kind_at(i: u32) -> ListKind
@@ -51,6 +52,17 @@ pub fn mark(k: ListKind) -> u8
     }
 }
 
+// How such a list's links are stored where the record's edition is d: those of a bin are as they are.
+pub fn links_by(k: ListKind, d: u32) -> u32
+    ensures { λ r. ⌜ r ≡ linksBy k d ⌝ }
+{
+    match k {
+        ListKind::Cache(_) => d,
+        ListKind::Fast(_) => d,
+        ListKind::Bin(_) => PLAIN,
+    }
+}
+
 // Whether c is a chunk, not the top, that was not met before.
 pub fn unmet(m: &[u8], c: Link) -> bool
     ensures { λ r. ⌜ r ≡ unmet (now (m .entry)) (c .0) ⌝ }
@@ -66,7 +78,7 @@ pub fn unmet(m: &[u8], c: Link) -> bool
 }
 
 pub fn head(r: &[u32], k: ListKind) -> Link
-    requires { ⌜ (length (now r) ≡ 395) × (headWord k < keyLow) ⌝ }
+    requires { ⌜ (length (now r) ≡ 396) × (headWord k < keyLow) ⌝ }
     ensures { λ v. ⌜ v .0 ≡ up (getD (now (r .entry)) (headWord k) 0) ⌝ }
 {
     match k {
@@ -81,7 +93,7 @@ pub fn head(r: &[u32], k: ListKind) -> Link
 
 // Whether the list may end after the chunk p and n chunks in all.
 pub fn may_end(r: &[u32], k: ListKind, p: Link, n: u32) -> bool
-    requires { ⌜ (length (now r) ≡ 395) × (tailWord k < keyLow) ⌝ }
+    requires { ⌜ (length (now r) ≡ 396) × (tailWord k < keyLow) ⌝ }
     ensures { λ v. ⌜ v ≡ mayEnd k (now (r .entry)) (p .0) n ⌝ }
 {
     match k {

@@ -18,7 +18,7 @@ const SKIPS_FROM: u32 = 3;
 
 // By version v of the rules, of a list of this kind that can be walked.
 pub fn skips_ok(a: &[u8], r: &[u32], k: ListKind, v: u32) -> bool
-    requires { ⌜ (length (now r) ≡ 395) × (headWord k < keyLow) × KindWalk k (arenaWords (now a)) (now r) ⌝ }
+    requires { ⌜ (length (now r) ≡ 396) × (headWord k < keyLow) × KindWalk k (arenaWords (now a)) (now r) ⌝ }
     ensures { λ t. ⌜ t ≡ skipsOk v k (arenaWords (now (a .entry))) (listOf (arenaWords (now (a .entry))) (now (r .entry)) k) ⌝ }
 {
     if v < SKIPS_FROM {

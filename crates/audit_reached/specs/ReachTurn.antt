@@ -16,9 +16,11 @@ use Rattle.sizes.specs.Layout.{fwdWord}
 use Rattle.machine.specs.Lists.{both, cnt, ind, has?, without, minus}
 use Rattle.machine.specs.Count.{eq?, ind-same, ind-other, without-cnt, without-length}
 use Rattle.machine.specs.Heap.{binFrom}
-use Rattle.machine.specs.View.{sizeAt, up, kindAt, headWord, chunksFrom, listAt}
+use Rattle.machine.specs.Mixing.{stored}
+use Rattle.machine.specs.View.{sizeAt, up, kindAt, headWord, chunksBy, listAt}
 use Rattle.machine.specs.Audit.{mayStand}
 use Rattle.machine.specs.declared.ListKind.{ListKind}
+use Rattle.audit_lists.specs.Linked.{linksIn}
 use Rattle.audit_lists.specs.Listed.{unmet}
 use Rattle.sound.specs.Tiles.{zero-or}
 use Rattle.audit_walks.specs.Marks.{unmetMark, Started, startsOf}
@@ -55,7 +57,7 @@ pub record Within (v : ℕ) (w r m : List ℕ) (k : ListKind) (i p q n c : ℕ) 
   pub marks : Marked v w r m left
   pub fuel : length left < f
   pub few : n + length left < length w
-  pub rest : (x : ℕ) → 1 ≤ cnt x left → binFrom i x (resume v w r k i left p n (chunksFrom f w c)) ≡ reachedIn v w r x
+  pub rest : (x : ℕ) → 1 ≤ cnt x left → binFrom i x (resume v w r k i left p n (chunksBy (linksIn r k) f w c)) ≡ reachedIn v w r x
   pub sized : (p ≡ none64 → ⊥) → q ≡ sizeAt w p
 
 -- ---- marks
@@ -147,23 +149,26 @@ module _ (v : ℕ) (w r m : List ℕ) (k : ListKind) (i p q n c : ℕ) (o : With
 
   -- ---- one turn
   pub list-turn : (u : Bool) (s : ℕ) → i < 200 → (c ≡ none64 → ⊥) → unmet m c ≡ true → u ≡ mayStand v k w r p n c → u ≡ true → s ≡ sizeAt w c
-      → Within v w r (set m (c / 16) (firstMark + i)) k i c s (n + 1) (getD w (fwdWord c) 0)
+      → Within v w r (set m (c / 16) (firstMark + i)) k i c s (n + 1) (stored (linksIn r k) c (getD w (fwdWord c) 0))
   list-turn u s lt ne e d y z = go (o .f) (o .fuel) (o .rest)
     where
+      next : ℕ
+      next = stored (linksIn r k) c (getD w (fwdWord c) 0)
+
       j : 1 ≤ cnt c (o .left)
       j = unmet-inside v w r m (o .left) (o .marks) c e .2
 
       g : length (o .left) ≡ suc (length (without c (o .left)))
       g = without-length c (o .left) j
 
-      go : (f : ℕ) → length (o .left) < f → ((x : ℕ) → 1 ≤ cnt x (o .left) → binFrom i x (resume v w r k i (o .left) p n (chunksFrom f w c)) ≡ reachedIn v w r x)
-          → Within v w r (set m (c / 16) (firstMark + i)) k i c s (n + 1) (getD w (fwdWord c) 0)
+      go : (f : ℕ) → length (o .left) < f → ((x : ℕ) → 1 ≤ cnt x (o .left) → binFrom i x (resume v w r k i (o .left) p n (chunksBy (linksIn r k) f w c)) ≡ reachedIn v w r x)
+          → Within v w r (set m (c / 16) (firstMark + i)) k i c s (n + 1) next
       go zero b t = absurd (not-suc-le-zero b)
       go (suc f) b t =
-          let l : List ℕ = goodPart v k w r (without c (o .left)) c (suc n) (chunksFrom f w (getD w (fwdWord c) 0)) in
+          let l : List ℕ = goodPart v k w r (without c (o .left)) c (suc n) (chunksBy (linksIn r k) f w next) in
           let ls : List (List ℕ) = reachedFrom v w r (suc i) (minus (without c (o .left)) l) (drop (suc i) (listsOf w r)) in
-          let more : goodPart v k w r (o .left) p n (chunksFrom (suc f) w c) ≡ c ∷ l =
-          ap (goodPart v k w r (o .left) p n) (chunks-more f w c ne) ∙ good-more v k w r (o .left) p n c _ (tested u true e d y) in
+          let more : goodPart v k w r (o .left) p n (chunksBy (linksIn r k) (suc f) w c) ≡ c ∷ l =
+          ap (goodPart v k w r (o .left) p n) (chunks-more (linksIn r k) f w c ne) ∙ good-more v k w r (o .left) p n c _ (tested u true e d y) in
           let step : (x : ℕ) → 1 ≤ cnt x (o .left) → binFrom i x ((c ∷ l) ∷ ls) ≡ reachedIn v w r x =
           λ x h. sym (ap (λ (y : List ℕ). binFrom i x (y ∷ reachedFrom v w r (suc i) (minus (o .left) y) (drop (suc i) (listsOf w r)))) more) ∙ t x h in
           let here : reachedIn v w r c ≡ i = sym (step c j) ∙ bin-here i c (c ∷ l) ls (omega (arith, ind-same c)) in
@@ -176,13 +181,13 @@ module _ (v : ℕ) (w r m : List ℕ) (k : ListKind) (i p q n c : ℕ) (o : With
             marks = mark-reached v w r m (o .left) c i (o .marks) e here lt;
             fuel = omega (arith, g);
             few = omega (arith, g, o .few);
-            rest = λ x h. subst (λ (y : ℕ). binFrom i x (resume v w r k i (without c (o .left)) c y (chunksFrom f w (getD w (fwdWord c) 0))) ≡ reachedIn v w r x) n1
+            rest = λ x h. subst (λ (y : ℕ). binFrom i x (resume v w r k i (without c (o .left)) c y (chunksBy (linksIn r k) f w next)) ≡ reachedIn v w r x) n1
                 (sym (bin-later i x c l ls (other x h)) ∙ step x (omega (arith, h, without-cnt c (o .left) j x)));
             sized = λ _. z;
           }
 
   -- ---- where the walk ends: the list does, c is no chunk or was met, c may not stand there
-  list-leave : goodPart v k w r (o .left) p n (chunksFrom (o .f) w c) ≡ [] → Before v w r m (i + 1)
+  list-leave : goodPart v k w r (o .left) p n (chunksBy (linksIn r k) (o .f) w c) ≡ [] → Before v w r m (i + 1)
   list-leave e =
       let i1 : suc i ≡ i + 1 = omega arith in
       record {
@@ -194,14 +199,14 @@ module _ (v : ℕ) (w r m : List ℕ) (k : ListKind) (i p q n c : ℕ) (o : With
       }
 
   pub list-end : c ≡ none64 → Before v w r m (i + 1)
-  list-end e = list-leave (ap (goodPart v k w r (o .left) p n) (chunks-end (o .f) w c e) ∙ good-none v k w r (o .left) p n)
+  list-end e = list-leave (ap (goodPart v k w r (o .left) p n) (chunks-end (linksIn r k) (o .f) w c e) ∙ good-none v k w r (o .left) p n)
 
   list-bad : (c ≡ none64 → ⊥) → both (has? c (o .left)) (mayStand v k w r p n c) ≡ false → Before v w r m (i + 1)
   list-bad ne e = list-leave (go (o .f))
     where
-      go : (f : ℕ) → goodPart v k w r (o .left) p n (chunksFrom f w c) ≡ []
+      go : (f : ℕ) → goodPart v k w r (o .left) p n (chunksBy (linksIn r k) f w c) ≡ []
       go zero = good-none v k w r (o .left) p n
-      go (suc f) = ap (goodPart v k w r (o .left) p n) (chunks-more f w c ne) ∙ good-bad v k w r (o .left) p n c _ e
+      go (suc f) = ap (goodPart v k w r (o .left) p n) (chunks-more (linksIn r k) f w c ne) ∙ good-bad v k w r (o .left) p n c _ e
 
   pub list-met : (c ≡ none64 → ⊥) → unmet m c ≡ false → Before v w r m (i + 1)
   list-met ne e = list-bad ne (ap (λ (x : Bool). both x (mayStand v k w r p n c)) (sym (o .marks .is c) ∙ e))

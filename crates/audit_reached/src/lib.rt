@@ -8,8 +8,9 @@ ghost use Rattle.audit_walks.specs.Marks.{Bytes, Started};
 ghost use Rattle.audit_reached.specs.ReachTurn.{Before};
 ghost use Rattle.audit_reached.specs.Reached.{ReachedBy};
 use chunk_fields::Link;
-use chunk_fields::fwd_at;
+use chunk_fields::edition_in;
 use chunk_fields::size_at;
+use chunk_fields::stack_link_at;
 use sizes::ALL_LISTS;
 use sizes::Chunk;
 use sizes::NONE64;
@@ -18,15 +19,18 @@ use sizes::NONE64;
 pub const FIRST_MARK: u8 = 2;
 
 // Marks the chunks that list i reaches by version v of the rules with its mark, u. x: the key that cached chunks are asked for; o: the sizes that the list
-// owns; c: the chunk at hand; p, q: the one before it and its size; n: how many came before.
+// owns; d: how its links are stored; c: the chunk at hand; p, q: the one before it and its size; n: how many came before. No link is held against none before
+// it is unmixed.
 fn reach_list(a: &[u8], r: &[u32], m: &mut [u8], i: u32, v: u32)
-    requires { ⌜ Bytes (now a) (now m) × (length (now r) ≡ 395) × (i < 200) × Before v (arenaWords (now a)) (now r) (now m) i ⌝ }
+    requires { ⌜ Bytes (now a) (now m) × (length (now r) ≡ 396) × (i < 200) × Before v (arenaWords (now a)) (now r) (now m) i ⌝ }
     ensures { λ _. ⌜ Before v (arenaWords (now (a .entry))) (now (r .entry)) (now (m .exit)) (i + 1) ⌝ }
 {
     let k = audit_lists::kind_at(i);
     let u = FIRST_MARK + (i as u8);
     let x = audit_lists::asked_by(r, v);
     let o = audit_lists::owned_by(k);
+    let edition = edition_in(r);
+    let d = audit_lists::links_by(k, edition);
     let mut c = audit_lists::head(r, k);
     let mut p = Link(NONE64);
     let mut q: u64 = 0;
@@ -44,13 +48,13 @@ fn reach_list(a: &[u8], r: &[u32], m: &mut [u8], i: u32, v: u32)
         p = c;
         q = s;
         n += 1;
-        c = fwd_at(a, at);
+        c = stack_link_at(a, d, at);
     }
 }
 
 // By version v of the rules. The marks m are those that the tile walk leaves: each chunk but the top as one that no list had yet.
 pub fn reach(a: &[u8], r: &[u32], m: &mut [u8], v: u32)
-    requires { ⌜ Bytes (now a) (now m) × (length (now r) ≡ 395) × Started (arenaWords (now a)) (now m) ⌝ }
+    requires { ⌜ Bytes (now a) (now m) × (length (now r) ≡ 396) × Started (arenaWords (now a)) (now m) ⌝ }
     ensures { λ _. ⌜ ReachedBy v (arenaWords (now (a .entry))) (now (r .entry)) (now (m .exit)) ⌝ }
 {
     let mut i: u32 = 0;

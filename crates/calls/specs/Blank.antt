@@ -7,15 +7,15 @@ use Rattle.sizes.specs.Limits.{none32}
 use Rattle.machine.specs.Heap.{opened, halves, recordOf}
 use Rattle.machine.specs.Calls.{closedRecord}
 
--- length n and top t, counts 0, the key q, all else none
-unfoldable pub blank : ℕ → ℕ → ℕ → List ℕ
-blank n t q = (n ∷ t ∷ none32 ∷ []) ++ (replicate 64 none32 ++ (replicate 64 0 ++ (replicate 262 none32 ++ halves q)))
+-- length n and top t, counts 0, the key q, the edition d, all else none
+unfoldable pub blank : ℕ → ℕ → ℕ → ℕ → List ℕ
+blank n t q d = (n ∷ t ∷ none32 ∷ []) ++ (replicate 64 none32 ++ (replicate 64 0 ++ (replicate 262 none32 ++ (halves q ++ d ∷ []))))
 
 -- all none, before anything is written
 unfoldable pub empty : List ℕ
-empty = replicate 395 none32
+empty = replicate 396 none32
 
-pub empty-length : (l : List ℕ) → l ≡ empty → length l ≡ 395
+pub empty-length : (l : List ℕ) → l ≡ empty → length l ≡ 396
 unfolding empty
 empty-length l e = ap length e
 
@@ -24,14 +24,14 @@ unfoldable pub zeroed : ℕ → List ℕ → List ℕ
 zeroed zero l = l
 zeroed (suc k) l = set (zeroed k l) (67 + k) 0
 
-pub zeroed-blank : (n t q : ℕ) → set (set (zeroed 64 (set (set empty 0 n) 1 t)) 393 (q % 2 ^ 32)) 394 (q / 2 ^ 32) ≡ blank n t q
+pub zeroed-blank : (n t q d : ℕ) → set (set (set (zeroed 64 (set (set empty 0 n) 1 t)) 393 (q % 2 ^ 32)) 394 (q / 2 ^ 32)) 395 d ≡ blank n t q d
 unfolding zeroed blank empty
-zeroed-blank n t q = refl
+zeroed-blank n t q d = refl
 
-pub opened-blank : (n q : ℕ) → recordOf (opened n q) ≡ blank n 0 q
+pub opened-blank : (n q d : ℕ) → recordOf (opened n q d) ≡ blank n 0 q d
 unfolding recordOf blank
-opened-blank n q = refl
+opened-blank n q d = refl
 
-pub closed-blank : closedRecord ≡ blank 0 none32 0
+pub closed-blank : closedRecord ≡ blank 0 none32 0 0
 unfolding closedRecord blank
 closed-blank = refl

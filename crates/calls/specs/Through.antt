@@ -54,13 +54,13 @@ octets a r q b c e s = let l = allowed-true (length a) (shape-allowed a r (c .sh
 pub words-small : (r : List ℕ) → ((i : ℕ) → getD r i 0 < 256) → (i : ℕ) → getD (wordsOf r) i 0 < 2 ^ 32
 words-small r s i =
     ⊎-elim
-    (λ l. subst (λ (n : ℕ). n < 2 ^ 32) (sym (getD-words 4 395 r i l)) (number-small 4 r (4 * i) s))
-    (λ l. subst (λ (n : ℕ). n < 2 ^ 32) (sym (List·getD-eq-default (wordsOf r) 0 (omega (arith, length-words 4 395 r)))) (omega arith))
-    (lt-or-le i 395)
+    (λ l. subst (λ (n : ℕ). n < 2 ^ 32) (sym (getD-words 4 396 r i l)) (number-small 4 r (4 * i) s))
+    (λ l. subst (λ (n : ℕ). n < 2 ^ 32) (sym (List·getD-eq-default (wordsOf r) 0 (omega (arith, length-words 4 396 r)))) (omega arith))
+    (lt-or-le i 396)
 
 pub came-sound : (a r q : List ℕ) → Came a r q → sound? (auditOf (arenaWords a) (wordsOf r)) ≡ true → Sound (heapIn a r) (arenaWords a) (wordsOf r)
 came-sound a r q c e =
-    audit-sound (arenaWords a) (wordsOf r) (arena-words a (came-arena a r q c)) (length-words 4 395 r) (words-small r (c .small)) (is-sound (auditOf (arenaWords a) (wordsOf r)) e)
+    audit-sound (arenaWords a) (wordsOf r) (arena-words a (came-arena a r q c)) (length-words 4 396 r) (words-small r (c .small)) (is-sound (auditOf (arenaWords a) (wordsOf r)) e)
 
 -- as the code has it: an answer about q
 pub told : (a r q : List ℕ) (f : Audited) → Came a r q → f ≡ auditOf (arenaWords a) q → (t : Bool) → sound? f ≡ t → sound? (auditOf (arenaWords a) (wordsOf r)) ≡ t

@@ -3,7 +3,7 @@ use mathlib.Core.Path.{_≡_, refl, sym, ap, _∙_}
 use mathlib.Core.Bool.{Bool, true, false}
 use mathlib.Core.List.{List}
 use Prim.Native.Nat.{ℕ, _+_, _-_, _%_, _≤_, _<_}
-use borrow.Author.Tests.{eq-eqb, ne-eqb, eqb-true, leb-true}
+use borrow.Author.Tests.{eq-eqb, eqb-true, leb-true}
 use lib.Dec.{eqb, ltb, leb}
 use lib.ListN.{length, getD}
 use Rattle.le.specs.Number.{bytes}
@@ -17,7 +17,7 @@ use Rattle.machine.specs.Writes.{size, put, apply, Ran, ran, heapOf, writes}
 use Rattle.machine.specs.Release.{release}
 use Rattle.machine.specs.Grant.{grant}
 use Rattle.machine.specs.Resize.{resize}
-use Rattle.machine.specs.Audit.{sound?, auditOf}
+use Rattle.machine.specs.Audit.{sound?, auditOf, edition?}
 use Rattle.machine.specs.Calls.{After, after, left, refused, shape?, arenaAllowed?, wordsOf, heapIn, onSound, onRequest, onLive, openCall, granted, grantCall, done, releaseCall, resizeCall, jobCall, auditCall}
 use Rattle.machine.specs.declared.{Got.Got, Got.the-variants.At, Got.the-variants.Nothing}
 use Rattle.machine.specs.declared.Audited.{Audited}
@@ -53,35 +53,41 @@ allowed-true n e =
     (eqb-true (n % 16) 0 (p .0), leb-true 32 n (q .0), leb-true n 262144 (q .1))
 
 -- good shape
-pub shape-true : (a r : List ℕ) → length r ≡ 1580 → arenaAllowed? (length a) ≡ true → shape? a r ≡ true
-shape-true a r e f = rw (eq-eqb (length r) 1580 e) f
+pub shape-true : (a r : List ℕ) → length r ≡ 1584 → arenaAllowed? (length a) ≡ true → shape? a r ≡ true
+shape-true a r e f = rw (eq-eqb (length r) 1584 e) f
 
 -- and what it says
 shape-parts : (a r : List ℕ) → shape? a r ≡ true → (eqb (length r) recordBytes ≡ true) × (arenaAllowed? (length a) ≡ true)
 shape-parts a r e = both-true (eqb (length r) recordBytes) (arenaAllowed? (length a)) e
 
-pub shape-long : (a r : List ℕ) → shape? a r ≡ true → length r ≡ 1580
+pub shape-long : (a r : List ℕ) → shape? a r ≡ true → length r ≡ 1584
 shape-long a r e = eqb-true (length r) recordBytes (shape-parts a r e .0)
 
 pub shape-allowed : (a r : List ℕ) → shape? a r ≡ true → arenaAllowed? (length a) ≡ true
 shape-allowed a r e = shape-parts a r e .1
 
 -- ---- open
-pub open-small : (a r : List ℕ) (q : ℕ) → eqb (length r) recordBytes ≡ false → after a r (Refused R.Shape) ≡ openCall a r q
+pub open-small : (a r : List ℕ) (q d : ℕ) → eqb (length r) recordBytes ≡ false → after a r (Refused R.Shape) ≡ openCall a r q d
 unfolding openCall
-open-small a r q e = rw (e, openCall)
+open-small a r q d e = rw (e, openCall)
 
-pub open-refused : (a r : List ℕ) (q : ℕ) → eqb (length r) recordBytes ≡ true → arenaAllowed? (length a) ≡ false → after a (bytes 4 (blank 0 4294967295 0)) (Refused R.Shape) ≡ openCall a r q
+pub open-refused : (a r : List ℕ) (q d : ℕ) → eqb (length r) recordBytes ≡ true → arenaAllowed? (length a) ≡ false
+    → after a (bytes 4 (blank 0 4294967295 0 0)) (Refused R.Shape) ≡ openCall a r q d
 unfolding openCall
-open-refused a r q e f = rw (e, openCall) (rw f (ap (λ (l : List ℕ). after a (bytes 4 l) (Refused R.Shape)) (sym closed-blank)))
+open-refused a r q d e f = rw (e, openCall) (rw f (ap (λ (l : List ℕ). after a (bytes 4 l) (Refused R.Shape)) (sym closed-blank)))
 
-pub open-done : (a r b : List ℕ) (q : ℕ) → eqb (length r) recordBytes ≡ true → arenaAllowed? (length a) ≡ true → Octets b → arenaWords b ≡ put (size 0 (length a) 1) (arenaWords a)
-    → after b (bytes 4 (blank (length a) 0 q)) Done ≡ openCall a r q
+pub open-edition : (a r : List ℕ) (q d : ℕ) → eqb (length r) recordBytes ≡ true → arenaAllowed? (length a) ≡ true → edition? d ≡ false
+    → after a (bytes 4 (blank 0 4294967295 0 0)) (Refused R.Edition) ≡ openCall a r q d
 unfolding openCall
-open-done a r b q e f o p =
-    rw (e, openCall) (rw f
-    (ap (λ (l : List ℕ). after l (bytes 4 (blank (length a) 0 q)) Done) (sym (bytes-arenaWords b (o .even) (o .small)) ∙ ap (bytes 8) p)
-    ∙ ap (λ (l : List ℕ). after (bytes 8 (put (size 0 (length a) 1) (arenaWords a))) (bytes 4 l) Done) (sym (opened-blank (length a) q))))
+open-edition a r q d e f g = rw (e, openCall) (rw f (rw g (ap (λ (l : List ℕ). after a (bytes 4 l) (Refused R.Edition)) (sym closed-blank))))
+
+pub open-done : (a r b : List ℕ) (q d : ℕ) → eqb (length r) recordBytes ≡ true → arenaAllowed? (length a) ≡ true → edition? d ≡ true → Octets b
+    → arenaWords b ≡ put (size 0 (length a) 1) (arenaWords a) → after b (bytes 4 (blank (length a) 0 q d)) Done ≡ openCall a r q d
+unfolding openCall
+open-done a r b q d e f g o p =
+    rw (e, openCall) (rw f (rw g
+    (ap (λ (l : List ℕ). after l (bytes 4 (blank (length a) 0 q d)) Done) (sym (bytes-arenaWords b (o .even) (o .small)) ∙ ap (bytes 8) p)
+    ∙ ap (λ (l : List ℕ). after (bytes 8 (put (size 0 (length a) 1) (arenaWords a))) (bytes 4 l) Done) (sym (opened-blank (length a) q d)))))
 
 -- ---- audit
 pub audit-shape : (a r : List ℕ) → shape? a r ≡ false → A.Shape ≡ auditCall a r

@@ -10,7 +10,7 @@ pub fn audit(arena: &[u8], control: &[u8]) -> Audited
     if !shaped(arena, control) {
         return Audited::Shape;
     }
-    let mut r = [0u32; 395];
+    let mut r = [0u32; 396];
     record_words::read_words(control, &mut r);
     audit::audit_words(arena, &r)
 }

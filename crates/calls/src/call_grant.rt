@@ -38,7 +38,7 @@ pub fn grant(arena: &mut [u8], control: &mut [u8], n: u64) -> Answer
             return Answer::Refused(Refusal::Request);
         }
         Needed::Size(b) => {
-            let mut r = [0u32; 395];
+            let mut r = [0u32; 396];
             record_words::read_words(control, &mut r);
             let f = audit::audit_words(arena, &r);
             if !machine::is_sound(f) {

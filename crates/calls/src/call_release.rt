@@ -13,7 +13,7 @@ pub fn release(arena: &mut [u8], control: &mut [u8], mem: u64) -> Answer
     if !shaped(arena, control) {
         return Answer::Refused(Refusal::Shape);
     }
-    let mut r = [0u32; 395];
+    let mut r = [0u32; 396];
     record_words::read_words(control, &mut r);
     let m = Mem(mem);
     let l = audit::look_at(arena, &r, m);

@@ -29,7 +29,7 @@ fn resize_block(arena: &mut [u8], control: &mut [u8], mem: u64, n: u64) -> Answe
             return Answer::Refused(Refusal::Request);
         }
         Needed::Size(b) => {
-            let mut r = [0u32; 395];
+            let mut r = [0u32; 396];
             record_words::read_words(control, &mut r);
             let m = Mem(mem);
             let l = audit::look_at(arena, &r, m);

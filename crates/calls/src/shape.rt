@@ -18,7 +18,7 @@ pub fn allowed(n: usize) -> bool
     n <= MOST_ARENA
 }
 
-// Both buffers: the record has 1,580 bytes.
+// Both buffers: the record has 1,584 bytes.
 pub fn shaped(arena: &[u8], control: &[u8]) -> bool
     ensures { λ t. ⌜ t ≡ shape? (now (arena .entry)) (now (control .entry)) ⌝ }
 {

@@ -19,8 +19,8 @@ use Rattle.machine.specs.Writes.{size, Ran, ran, heapOf, writes}
 use Rattle.machine.specs.Release.{release}
 use Rattle.machine.specs.Grant.{grant}
 use Rattle.machine.specs.Resize.{resize}
-use Rattle.machine.specs.Audit.{sound?, auditOf}
-use Rattle.machine.specs.Calls.{After, after, left, refused, arenaAllowed?, shape?, wordsOf, heapIn, closedRecord, openCall, granted, grantCall, done, releaseCall, resizeCall, jobCall}
+use Rattle.machine.specs.Audit.{sound?, auditOf, edition?}
+use Rattle.machine.specs.Calls.{After, after, left, shape?, wordsOf, heapIn, closedRecord, openCall, granted, grantCall, done, releaseCall, resizeCall, jobCall}
 use Rattle.machine.specs.declared.{Got.Got, Got.the-variants.At, Got.the-variants.Nothing}
 use Rattle.machine.specs.declared.Refusal.the-variants as R
 use Rattle.machine.specs.declared.Answer.the-variants.{Done, Granted, Refused}
@@ -52,13 +52,22 @@ both-live : (h : Heap) (m : ℕ) → 16 ≤ m → live? h (m - 16) ≡ true → 
 both-live h m l e = ap (λ (t : Bool). both t (live? h (m - 16))) (le-leb 16 m l) ∙ e
 
 -- ---- the calls
-pub open-called : (a r : List ℕ) (q : ℕ) → Lent a r → left a (opened (length a) q) (size 0 (length a) 1 ∷ []) Done ≡ openCall a r q
-unfolding openCall
-open-called a r q L =
-    let x : After = left a (opened (length a) q) (size 0 (length a) 1 ∷ []) Done in
-    let y : After = after a (bytes 4 closedRecord) (Refused R.Shape) in
-    ap (λ (t : Bool). elim t [ true ↦ x | false ↦ y ]) (sym (lent-shape a r L .0))
-    ∙ ap (λ (t : Bool). elim t [ true ↦ elim (arenaAllowed? (length a)) [ true ↦ x | false ↦ y ] | false ↦ refused a r R.Shape ]) (sym (eq-eqb (length r) 1580 (L .long)))
+module _ (a r : List ℕ) (q d : ℕ) (L : Lent a r) where
+  pub open-called : edition? d ≡ true → left a (opened (length a) q d) (size 0 (length a) 1 ∷ []) Done ≡ openCall a r q d
+  unfolding openCall
+  open-called e = rw (eq-eqb (length r) 1584 (L .long), openCall) (rw (lent-shape a r L .0) (rw e))
+
+  pub open-none : edition? d ≡ false → after a (bytes 4 closedRecord) (Refused R.Edition) ≡ openCall a r q d
+  unfolding openCall
+  open-none e = rw (eq-eqb (length r) 1584 (L .long), openCall) (rw (lent-shape a r L .0) (rw e))
+
+  pub open-cases : (P : After → Type 0) → P (left a (opened (length a) q d) (size 0 (length a) 1 ∷ []) Done) → P (after a (bytes 4 closedRecord) (Refused R.Edition))
+      → P (openCall a r q d)
+  open-cases P f g = go (edition? d) refl
+    where
+      go : (t : Bool) → edition? d ≡ t → P (openCall a r q d)
+      go true e = subst P (open-called e) f
+      go false e = subst P (open-none e) g
 
 module _ (a r : List ℕ) (L : Lent a r) (P : After → Type 0) where
   good : shape? a r ≡ true

@@ -16,12 +16,13 @@ use Rattle.sizes.specs.Limits.{none32, mostRequest, recordBytes, unsorted}
 use Rattle.sizes.specs.Layout.{lengthWord}
 use Rattle.sizes.specs.Sizes.{need, usable}
 use Rattle.sizes.specs.SizesLaws.{NeedBounds, need-bounds}
-use Rattle.machine.specs.Lists.{cnt}
+use Rattle.machine.specs.Lists.{both, cnt}
 use Rattle.machine.specs.Heap.{Heap, stack, cache, bin, opened, starts, sizeOf, live?}
 use Rattle.machine.specs.Writes.{size, Ran, does, heapOf, writes}
 use Rattle.machine.specs.Release.{release, emptying, joining}
 use Rattle.machine.specs.Grant.{grant}
-use Rattle.machine.specs.Audit.{sound?, first, recordFault, auditBy, auditOf}
+use Rattle.machine.specs.View.{editionIn}
+use Rattle.machine.specs.Audit.{sound?, first, edition?, recordFault, auditBy, auditOf}
 use Rattle.machine.specs.Calls.{After, after, shape?, arenaAllowed?, wordsOf, heapIn, closedRecord, openCall, grantCall, releaseCall, jobCall, emptyingCall, joiningCall, joinedAfter, auditCall}
 use Rattle.machine.specs.declared.{Got.Got, Got.the-variants.Nothing}
 use Rattle.machine.specs.declared.Refusal.{Refusal}
@@ -44,6 +45,7 @@ use Rattle.sound.specs.Emptying.{emptying-leaves}
 use Rattle.sound.specs.Joining.{Merged, joining-leaves}
 use Rattle.sound.specs.Unsorted.{unsorted-few}
 use Rattle.sound.specs.Live.{But, Gives, live-loose, loose-live, moved-tame, release-goes, emptying-empties, joining-merges, grant-gives, grant-refused}
+use Rattle.audit.specs.Spelled.{edition-out}
 use Rattle.audit.specs.Exact.{arena-words, audit-good}
 use Rattle.primitives.specs.Follow.{Has, Does}
 use Rattle.calls.specs.Ways.{allowed-true, grant-shape, grant-request, grant-unsound, release-shape, release-unsound, job-shape, job-unsound}
@@ -51,7 +53,7 @@ use Rattle.calls_consequences.specs.Written.{top-most, chunk-most}
 use Rattle.calls_consequences.specs.Remainder.{Fine, grant-fine, release-fine, emptying-fine, joining-fine}
 use Rattle.calls_consequences.specs.Results.{Lent, SoundIn, UnsoundIn, answered, arenaLeft, recordLeft, heapLeft, LiveMem, Exactly, StaysSound, CachesKept, LiveKept, BlockAt, GrantedNew}
 use Rattle.calls_consequences.specs.Left.{lent-shape, lent-sound, lent-fine, left-heap, left-stays, left-keeps}
-use Rattle.calls_consequences.specs.Cases.{open-called, grant-cases, release-cases, job-cases}
+use Rattle.calls_consequences.specs.Cases.{open-called, open-none, grant-cases, release-cases, job-cases}
 
 -- ---- number 3: an unsound heap is refused before the first write, and nothing changes
 pub unsound-refused : (a r : List ℕ) (n m : ℕ) → Lent a r → UnsoundIn a r → n ≤ 262144
@@ -74,7 +76,8 @@ unfolding auditBy
 closed-unsound a l =
     let e : eqb (getD (wordsOf (bytes 4 closedRecord)) lengthWord 0) (8 * length (arenaWords a)) ≡ false =
     ap (λ (n : ℕ). eqb n (8 * length (arenaWords a))) closed-length ∙ ne-eqb 0 (8 * length (arenaWords a)) (λ z. omega (arith, z, length-arenaWords a)) in
-    first-fault (recordFault (arenaWords a) (wordsOf (bytes 4 closedRecord))) _ (ap (λ (t : Bool). sound? (elim t [ true ↦ A.Sound | false ↦ A.Record ])) e)
+    first-fault (recordFault (arenaWords a) (wordsOf (bytes 4 closedRecord))) _
+    (ap (λ (t : Bool). sound? (elim (both t (edition? (editionIn (wordsOf (bytes 4 closedRecord))))) [ true ↦ A.Sound | false ↦ A.Record ])) e)
 
 -- ---- number 1: bytes of bad shape
 pub bad-shape-refused : (a r : List ℕ) (n m : ℕ) → shape? a r ≡ false
@@ -85,6 +88,10 @@ bad-shape-refused a r n m e = (sym (grant-shape a r n e), sym (release-shape a r
 -- ---- number 2: a request above 262,144, whether the heap is sound or not
 pub large-refused : (a r : List ℕ) (n : ℕ) → Lent a r → 262144 < n → grantCall a r n ≡ after a r (Refused R.Request)
 large-refused a r n L l = sym (grant-request a r n (lent-shape a r L .1) (lt-ltb mostRequest n l))
+
+-- ---- number 12: an edition that there is not, at an open of good shape; the arena is left, and the record is closed
+pub edition-refused : (a r : List ℕ) (q d : ℕ) → Lent a r → edition? d ≡ false → openCall a r q d ≡ after a (bytes 4 closedRecord) (Refused R.Edition)
+edition-refused a r q d L e = sym (open-none a r q d L e)
 
 -- ---- any two results that meet a promise are equal: every promise says `after .. ≡ call`, and the audit's says `.. ≡ auditCall ..`
 pub results-unique : (call : After) (a b r s : List ℕ) (x y : Answer) → after a r x ≡ call → after b s y ≡ call → (a ≡ b) × (r ≡ s) × (x ≡ y)
@@ -193,9 +200,9 @@ module _ (a r : List ℕ) (L : Lent a r) where
   job-ends : (f : Heap → Ran (Unit {0})) → Job f → SoundIn a r → Ends (f (heapIn a r)) (arenaWords a) Fine
   job-ends f J S = J .ends (heapIn a r) (arenaWords a) (lent-fine a r L S) (heard S .mem)
 
-  open-ends : (q : ℕ) → q < 2 ^ 64 → Ends (does (opened (length a) q) (size 0 (length a) 1 ∷ [])) (arenaWords a) Fine
-  open-ends q b =
-      let o = opened-ends (length a) q (arenaWords a) b (L .even) (L .least) (L .most) (omega (arith, length-arenaWords a, L .even)) in
+  open-ends : (q d : ℕ) → q < 2 ^ 64 → edition? d ≡ true → Ends (does (opened (length a) q d) (size 0 (length a) 1 ∷ [])) (arenaWords a) Fine
+  open-ends q d b e =
+      let o = opened-ends (length a) q d (arenaWords a) b (edition-out d e) (L .even) (L .least) (L .most) (omega (arith, length-arenaWords a, L .even)) in
       record { mem = o .1; now = record { good = o .0; low = omega arith } }
 
   -- ---- numbers 1 to 4 write nothing
@@ -232,8 +239,9 @@ module _ (a r : List ℕ) (L : Lent a r) where
       (λ l S c q. (λ e. clash (cc), λ e. clash (cc)))
 
   -- ---- the bytes left spell the heap that the steps left
-  pub open-heap : (q : ℕ) → q < 2 ^ 64 → heapLeft (openCall a r q) ≡ opened (length a) q
-  open-heap q b = ap heapLeft (sym (open-called a r q L)) ∙ left-heap a r (does (opened (length a) q) (size 0 (length a) 1 ∷ [])) Done L (open-ends q b)
+  pub open-heap : (q d : ℕ) → q < 2 ^ 64 → edition? d ≡ true → heapLeft (openCall a r q d) ≡ opened (length a) q d
+  open-heap q d b e =
+      ap heapLeft (sym (open-called a r q d L e)) ∙ left-heap a r (does (opened (length a) q d) (size 0 (length a) 1 ∷ [])) Done L (open-ends q d b e)
 
   pub grant-heap : (n : ℕ) → SoundIn a r → n ≤ 262144 → heapLeft (grantCall a r n) ≡ heapOf (grant (need n) (heapIn a r))
   grant-heap n S l = grant-cases a r L (λ x. heapLeft x ≡ heapOf (grant (need n) (heapIn a r))) n
@@ -252,8 +260,9 @@ module _ (a r : List ℕ) (L : Lent a r) where
       (λ U. no-yes a r S U) (λ S. left-heap a r (f (heapIn a r)) Done L (job-ends f J S))
 
   -- ---- an opened heap is sound, and what is sound stays sound and of good shape in every call, refused or not
-  pub open-sound : (q : ℕ) → q < 2 ^ 64 → StaysSound (openCall a r q)
-  open-sound q b = subst StaysSound (open-called a r q L) (left-stays a r (does (opened (length a) q) (size 0 (length a) 1 ∷ [])) Done L (open-ends q b))
+  pub open-sound : (q d : ℕ) → q < 2 ^ 64 → edition? d ≡ true → StaysSound (openCall a r q d)
+  open-sound q d b e =
+      subst StaysSound (open-called a r q d L e) (left-stays a r (does (opened (length a) q d) (size 0 (length a) 1 ∷ [])) Done L (open-ends q d b e))
 
   pub same-stays : (x : Answer) → SoundIn a r → StaysSound (after a r x)
   same-stays x S = record { lent = L; sound = S }

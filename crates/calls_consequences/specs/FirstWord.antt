@@ -1,6 +1,6 @@
 -- No call changes bytes 0 to 7 of the arena: no write of a step goes to the arena's first word. Of bytes of good shape; of any others a call leaves the arena
 -- as it was. Assumes nothing.
-use mathlib.Core.Path.{_≡_, refl, ap, _∙_, subst}
+use mathlib.Core.Path.{_≡_, refl, ap, _∙_}
 use mathlib.Core.List.{List, [], _∷_}
 use Prim.Native.Nat.{ℕ, _-_, _/_, _<_}
 use native.Mathlib.Omega.{arith}
@@ -26,7 +26,7 @@ use Rattle.sound.specs.Live.{live-loose}
 use Rattle.calls_consequences.specs.Bytes.{byte-same}
 use Rattle.calls_consequences.specs.Results.{Lent, SoundIn, arenaLeft, LiveMem}
 use Rattle.calls_consequences.specs.Left.{lent-sound}
-use Rattle.calls_consequences.specs.Cases.{open-called, grant-cases, release-cases, resize-cases, job-cases}
+use Rattle.calls_consequences.specs.Cases.{open-cases, grant-cases, release-cases, resize-cases, job-cases}
 use Rattle.calls_consequences.specs.Consequences.{Job, emptying-job, joining-job}
 
 -- a call that leaves bytes 0 to 7 of the arena a as they were
@@ -56,8 +56,8 @@ module _ (a r : List ℕ) (L : Lent a r) where
       resize-resized (heapIn a r) (arenaWords a) (m - 16) (need n) (heard S .good) (heard S .mem) (live-loose (heapIn a r) (m - 16) (v .1)) (need-bounds n .whole) (need-bounds n .least)
       .leaves .moved .past
 
-  open-first : (q : ℕ) → FirstKept a (openCall a r q)
-  open-first q = subst (FirstKept a) (open-called a r q L) (kept (size 0 (length a) 1 ∷ []) (omega arith, tt))
+  open-first : (q d : ℕ) → FirstKept a (openCall a r q d)
+  open-first q d = open-cases a r q d L (FirstKept a) (kept (size 0 (length a) 1 ∷ []) (omega arith, tt)) (λ i j. refl)
 
   grant-first : (n : ℕ) → FirstKept a (grantCall a r n)
   grant-first n =
@@ -79,7 +79,7 @@ module _ (a r : List ℕ) (L : Lent a r) where
       (λ z. grant-first n) (λ z k. release-first m) (λ z l i j. refl) (λ z k U i j. refl) (λ z k S d i j. refl)
       (λ k i S v q. kept ws (resize-past m n S v)) (λ k i S v c q. kept ws (resize-past m n S v))
 
-  pub first-bytes-kept : (q m n : ℕ) → FirstKept a (openCall a r q) × FirstKept a (grantCall a r n) × FirstKept a (releaseCall a r m)
+  pub first-bytes-kept : (q d m n : ℕ) → FirstKept a (openCall a r q d) × FirstKept a (grantCall a r n) × FirstKept a (releaseCall a r m)
       × FirstKept a (resizeCall a r m n) × FirstKept a (emptyingCall a r) × FirstKept a (joiningCall a r)
-  first-bytes-kept q m n =
-      (open-first q, grant-first n, release-first m, resize-first m n, job-first emptying emptying-job, job-first joining joining-job)
+  first-bytes-kept q d m n =
+      (open-first q d, grant-first n, release-first m, resize-first m n, job-first emptying emptying-job, job-first joining joining-job)

@@ -15,12 +15,12 @@ use Rattle.machine.specs.declared.Answer.{Answer}
 use Rattle.sound.specs.Drain.{NoFast}
 use Rattle.sound.specs.Resize.{standing}
 
--- good shape: bytes lent by a caller of C, an arena of an allowed length and a record of 1,580 bytes
+-- good shape: bytes lent by a caller of C, an arena of an allowed length and a record of 1,584 bytes
 pub record Lent (a r : List ℕ) : Type 0 where
   pub even : length a % 16 ≡ 0
   pub least : 32 ≤ length a
   pub most : length a ≤ 262144
-  pub long : length r ≡ 1580
+  pub long : length r ≡ 1584
   pub bytes : (i : ℕ) → getD a i 0 < 256
   pub words : (i : ℕ) → getD r i 0 < 256
 

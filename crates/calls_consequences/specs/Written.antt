@@ -1,22 +1,24 @@
 -- A sound heap survives its bytes: its words and its record, written as bytes and read again, are those of the same heap. Every word that the relation
--- reads is an offset, a size or none, and so tiled its width; a word that it does not read may be cut. Assumes nothing.
+-- reads is an offset, a size, none or a mixed link, and so fits its width; a word that it does not read may be cut. Assumes nothing.
 use mathlib.Core.Path.{_≡_, ap, _∙_}
 use mathlib.Core.List.{List, [], _∷_, _++_}
-use mathlib.Core.Logic.{⊎-elim}
+use mathlib.Core.Logic.{_⊎_, ⊎-elim}
 use Prim.Native.Nat.{ℕ, _+_, _*_, _≤_, _/_, _%_, _^_, _<_}
 use native.Mathlib.Omega.{arith}
 use lib.ListN.{length, getD}
 use Rattle.le.specs.Number.{bytes}
 use Rattle.le.specs.Arena.{arenaWords}
-use Rattle.sizes.specs.Limits.{none64, none32, recordWords}
-use Rattle.sizes.specs.Layout.{prevWord, sizeWord, fwdWord, backWord, lengthWord, topWord, remainderWord, cacheHead, cacheCount, fastHead, binFirst, binLast, keyLow, keyHigh, keyWord}
+use Rattle.sizes.specs.Limits.{none64, none32, recordWords, plain, mixed}
+use Rattle.sizes.specs.Layout.{prevWord, sizeWord, fwdWord, backWord, lengthWord, topWord, remainderWord, cacheHead, cacheCount, fastHead, binFirst, binLast, keyLow, keyHigh, editionWord, keyWord}
 use Rattle.machine.specs.Lists.{hd, lst, cnt}
 use Rattle.machine.specs.Count.{ind-same, cnt-here, cnt-there, cnt-le-all}
 use Rattle.machine.specs.Heap.{Tile, tile, Heap, topSize, stack, cache, fast, fastAt, bin, binned, endFrom, topOf, starts, sizeOf, recordOf}
 use Rattle.machine.specs.Writes.{Write, who, field, value}
+use Rattle.machine.specs.Mixing.{stored}
+use Rattle.machine.specs.MixingLaws.{stored-small}
 use Rattle.machine.specs.Skips.{ringFrom, ring, putSkips, allPut, skips}
 use Rattle.machine.specs.Calls.{heapIn, wordsOf}
-use Rattle.sound.specs.Relation.{all, tiled, tilesAt, chain, links, stand, Mem, flags, Good, Sound}
+use Rattle.sound.specs.Relation.{all, tiled, tilesAt, chainBy, links, stand, Mem, flags, Good, Sound}
 use Rattle.sound.specs.Tiles.{tiled-split, end-le, start}
 use Rattle.sound.specs.Frames.{end-all, starts-all}
 use Rattle.sound.specs.Apart.{clear-of, tiled-tiles}
@@ -25,7 +27,7 @@ use Rattle.sound.specs.RecordOf.{record-words, record-ext}
 use Rattle.audit.specs.Exact.{audit-read}
 use Rattle.calls_consequences.specs.Bytes.{cut, getD-cut, length-cut, words-cut, arenaWords-cut}
 
--- a word that tiled its width is read as it was written
+-- a word that fits its width is read as it was written
 kept8 : (w : List ℕ) (i x : ℕ) → getD w i 0 ≡ x → x ≤ none64 → getD (cut 8 w) i 0 ≡ x
 kept8 w i x e l = getD-cut 8 w i ∙ omega arith
 
@@ -51,11 +53,13 @@ tiles-cut b w o q s (t ∷ ts) f g l e k =
       tiles-cut b w (o + t .size) (b o) (t .size) ts (f .3) (g .3) (omega arith) e (k .2),
     )
 
-chain-cut : (w l : List ℕ) → ((x : ℕ) → 1 ≤ cnt x l → x ≤ 262144) → chain w l → chain (cut 8 w) l
-chain-cut w [] m k = tt
-chain-cut w (x ∷ l) m k =
-    let n : (y : ℕ) → 1 ≤ cnt y l → y ≤ 262144 = λ y c. m y (cnt-there y x l c) in
-    (kept8 w (fwdWord x) (hd none64 l) (k .0) (hd-most none64 l (omega arith) n), chain-cut w l n (k .1))
+chain-cut : (d : ℕ) (w l : List ℕ) → ((x : ℕ) → 1 ≤ cnt x l → x < 262144) → chainBy d w l → chainBy d (cut 8 w) l
+chain-cut d w [] m k = tt
+chain-cut d w (x ∷ l) m k =
+    let n : (y : ℕ) → 1 ≤ cnt y l → y < 262144 = λ y c. m y (cnt-there y x l c) in
+    let most : hd none64 l ≤ none64 = hd-most none64 l (omega arith) (λ y c. omega (arith, n y c)) in
+    let small : stored d x (hd none64 l) < 2 ^ 64 = stored-small d x (hd none64 l) (m x (cnt-here x l)) (omega arith) in
+    (kept8 w (fwdWord x) (stored d x (hd none64 l)) (k .0) (omega arith), chain-cut d w l n (k .1))
 
 links-cut : (w : List ℕ) (p : ℕ) (l : List ℕ) → p ≤ none64 → ((x : ℕ) → 1 ≤ cnt x l → x ≤ 262144) → links w p l none64 → links (cut 8 w) p l none64
 links-cut w p [] e m k = tt
@@ -118,7 +122,7 @@ module _ (h : Heap) (g : Good h) where
       (λ l. ⊎-elim (λ e. absurd (omega (arith, start-most x m))) (λ e. e) l)
       (clear-of h x (topOf h) (g .shape) m (omega (arith, starts-all h (topOf h), ind-same (topOf h))))
 
-  stack-most : (k x : ℕ) → 1 ≤ cnt x (stack h k) → x ≤ 262144
+  stack-most : (k x : ℕ) → 1 ≤ cnt x (stack h k) → x < 262144
   stack-most k x m = omega (arith, start-most x (omega (arith, g .shape .own x, cnt-le-all x (h .stacks) k)), top-most, g .shape .small)
 
   pub bin-most : (j x : ℕ) → 1 ≤ cnt x (bin h j) → x ≤ 262144
@@ -128,17 +132,21 @@ module _ (h : Heap) (g : Good h) where
   mem-cut w m = record {
     long = ap (λ (n : ℕ). 8 * n) (length-cut 8 w) ∙ m .long;
     words = tiles-cut (λ x. binned h x) w 0 0 0 (all h) (g .shape .sizes) (g .flag) (omega arith) (omega (arith, end-all h (g .shape .sizes), g .shape .small)) (m .words);
-    chains = λ k. chain-cut w (stack h k) (stack-most k) (m .chains k);
+    chains = λ k. chain-cut (h .edition) w (stack h k) (stack-most k) (m .chains k);
     blinks = λ j. links-cut w none64 (bin h j) (omega arith) (bin-most j) (m .blinks j);
     keys = λ z k x p i. kept8 w (keyWord x) (h .key) (m .keys z k x p i) (omega (arith, m .key64));
     key64 = m .key64;
+    edited = m .edited;
     skipped = λ z j. stand-cut (λ x. sizeOf h x) (bin h j) (skips j (λ x. sizeOf h x) (bin h j)) w
         (skips-w j (λ x. sizeOf h x) (bin h j) (λ y x m. g .shape .roomy j x y m)) (skips-small j (λ x. sizeOf h x) (bin h j) (bin-most j)) (m .skipped z j);
   }
 
   -- ---- the record's words
-  record-cut : h .remainder ≤ none32 → h .key < 2 ^ 64 → cut 4 (recordOf h) ≡ recordOf h
-  record-cut low small =
+  edition-most : (h .edition ≡ plain) ⊎ (h .edition ≡ mixed) → h .edition ≤ none32
+  edition-most k = ⊎-elim (λ e. omega arith) (λ e. omega arith) k
+
+  record-cut : h .remainder ≤ none32 → h .key < 2 ^ 64 → h .edition ≤ none32 → cut 4 (recordOf h) ≡ recordOf h
+  record-cut low small edition =
       let o = record-words h (g .shape .stacked74) (g .shape .binned127) in
       let r : List ℕ = recordOf h in
       record-ext h (cut 4 r) (g .shape .stacked74) (g .shape .binned127) (record {
@@ -146,20 +154,21 @@ module _ (h : Heap) (g : Good h) where
         len = kept4 r lengthWord (h .len) (o .len) (omega (arith, g .shape .small));
         top = kept4 r topWord (topOf h) (o .top) (omega (arith, top-most, g .shape .small));
         remainder = kept4 r remainderWord (h .remainder) (o .remainder) low;
-        heads = λ k l. kept4 r (cacheHead k) (hd none32 (cache h k)) (o .heads k l) (hd-most none32 (cache h k) (omega arith) (stack-most k));
+        heads = λ k l. kept4 r (cacheHead k) (hd none32 (cache h k)) (o .heads k l) (hd-most none32 (cache h k) (omega arith) (λ x i. omega (arith, stack-most k x i)));
         counts = λ k l. kept4 r (cacheCount k) (length (cache h k)) (o .counts k l) (omega (arith, g .homes .short k l));
-        fasts = λ k l. kept4 r (fastHead k) (hd none32 (fast h k)) (o .fasts k l) (hd-most none32 (fast h k) (omega arith) (stack-most (fastAt k)));
+        fasts = λ k l. kept4 r (fastHead k) (hd none32 (fast h k)) (o .fasts k l) (hd-most none32 (fast h k) (omega arith) (λ x i. omega (arith, stack-most (fastAt k) x i)));
         firsts = λ j l m. kept4 r (binFirst j) (hd none32 (bin h j)) (o .firsts j l m) (hd-most none32 (bin h j) (omega arith) (bin-most j));
         lasts = λ j l m. kept4 r (binLast j) (lst none32 (bin h j)) (o .lasts j l m) (lst-most none32 none32 (bin h j) (omega arith) (omega arith) (bin-most j));
         low = kept4 r keyLow (h .key % 2 ^ 32) (o .low) (omega arith);
         high = kept4 r keyHigh (h .key / 2 ^ 32) (o .high) (omega arith);
+        edition = kept4 r editionWord (h .edition) (o .edition) edition;
       })
 
   pub written-sound : (w : List ℕ) → Mem h w → h .remainder ≤ none32 → Sound h (arenaWords (bytes 8 w)) (wordsOf (bytes 4 (recordOf h)))
   written-sound w m low = record {
     good = g;
     mem = rw (arenaWords-cut w) (mem-cut w m);
-    rec = words-cut 4 recordWords (recordOf h) (record-words h (g .shape .stacked74) (g .shape .binned127) .all) ∙ record-cut low (m .key64);
+    rec = words-cut 4 recordWords (recordOf h) (record-words h (g .shape .stacked74) (g .shape .binned127) .all) ∙ record-cut low (m .key64) (edition-most (m .edited));
   }
 
   pub written-read : (w : List ℕ) → Mem h w → h .remainder ≤ none32 → heapIn (bytes 8 w) (bytes 4 (recordOf h)) ≡ h

@@ -2,7 +2,7 @@
 use sizes::KEY_HIGH;
 use sizes::KEY_LOW;
 ghost use mathlib.Core.Path.{_≡_};
-ghost use Prim.Native.Nat.{_+_, _*_, _/_, _%_, _^_, _<_};
+ghost use Prim.Native.Nat.{_+_, _*_, _/_, _%_, _^_};
 ghost use lib.ListN.{length, set};
 ghost use Rattle.machine.specs.View.{keyIn};
 
@@ -16,14 +16,14 @@ fn joined(low: u32, high: u32) -> u64
 }
 
 pub fn key_in(r: &[u32]) -> u64
-    requires { ⌜ length (now r) ≡ 395 ⌝ }
+    requires { ⌜ length (now r) ≡ 396 ⌝ }
     ensures { λ q. ⌜ q ≡ keyIn (now (r .entry)) ⌝ }
 {
     joined(r[KEY_LOW], r[KEY_HIGH])
 }
 
 pub fn set_key_in(r: &mut [u32], q: u64)
-    requires { ⌜ length (now r) ≡ 395 ⌝ }
+    requires { ⌜ length (now r) ≡ 396 ⌝ }
     ensures { λ _. ⌜ now (r .exit) ≡ set (set (now (r .entry)) 393 (q % 2 ^ 32)) 394 (q / 2 ^ 32) ⌝ }
 {
     r[KEY_LOW] = (q % HALF) as u32;

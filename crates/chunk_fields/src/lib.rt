@@ -2,11 +2,15 @@
 // Each write of a field is a write of the machine.
 mod keys; // keys.rt: the record's key
 mod links; // links.rt: the two ways of writing 'none'
+mod mixing; // mixing.rt: links as an edition stores them
 
 pub use keys::key_in;
 pub use keys::set_key_in;
 pub use links::link_of;
 pub use links::word_of;
+pub use mixing::edition_in;
+pub use mixing::set_stack_link;
+pub use mixing::stack_link_at;
 use sizes::Chunk;
 use sizes::SizeWord;
 ghost use mathlib.Core.Path.{_≡_};

@@ -14,7 +14,7 @@ use Rattle.machine.specs.Heap.{Heap, stack, fastAt}
 use Rattle.machine.specs.Writes.{Ran, ran, heapOf, writes, apply, _>>=_}
 use Rattle.machine.specs.Primitives.{pop}
 use Rattle.machine.specs.Release.{join, drain, drains, consolidate}
-use Rattle.machine.specs.View.{up, chunksFrom}
+use Rattle.machine.specs.View.{up, editionIn, chunksBy}
 use Rattle.machine.specs.declared.{Got.Got, Got.the-variants.At}
 use Rattle.sound.specs.Relation.{Mem, Loose, Good}
 use Rattle.sound.specs.Moves.{nil, one, any}
@@ -24,19 +24,20 @@ use Rattle.sound.specs.Drain.{Taken, pop-taken, drain-leaves}
 use Rattle.primitives.specs.Follow.{Ok, Has, answer, Gave, Does}
 use Rattle.primitives.specs.FollowLaws.{gave-then, gave-ok}
 use Rattle.primitives.specs.Chunks.{list-short, up-hd, walk-list}
-use Rattle.primitives.specs.Stacks.{ok-stack, ok-fastHead}
+use Rattle.primitives.specs.Stacks.{ok-stack, ok-fastHead, ok-edition}
 use Rattle.primitives.specs.Reach.{Reach, Way, then-then, then-same, ends-next, way-here, reach-then, reach-end}
 
 -- ---- a fast list's length, by the words
 abbrev pub left : List ℕ → List ℕ → ℕ → ℕ
-left w r k = length (chunksFrom (length w) w (up (getD r (fastHead k) 0)))
+left w r k = length (chunksBy (editionIn r) (length w) w (up (getD r (fastHead k) 0)))
 
 module _ (h : Heap) (w r : List ℕ) (o : Ok h w r) where
   pub left-is : (k : ℕ) → k < 10 → left w r k ≡ length (stack h (fastAt k))
   left-is k hk =
       let l : List ℕ = stack h (fastAt k) in
-      ap (λ (c : ℕ). length (chunksFrom (length w) w c)) (ap up (ok-fastHead h w r o k hk) ∙ up-hd w l (ok-stack h w r o (fastAt k)))
-      ∙ ap length (walk-list (length w) w l (list-short h w (o .shape) (o .mem) l (λ x. omega (arith, o .shape .own x, cnt-le-all x (h .stacks) (fastAt k)))) (ok-stack h w r o (fastAt k)) (o .mem .chains (fastAt k)))
+      ap (λ (d : ℕ). length (chunksBy d (length w) w (up (getD r (fastHead k) 0)))) (ok-edition h w r o)
+      ∙ ap (λ (c : ℕ). length (chunksBy (h .edition) (length w) w c)) (ap up (ok-fastHead h w r o k hk) ∙ up-hd w l (ok-stack h w r o (fastAt k)))
+      ∙ ap length (walk-list (h .edition) (length w) w l (list-short h w (o .shape) (o .mem) l (λ x. omega (arith, o .shape .own x, cnt-le-all x (h .stacks) (fastAt k)))) (ok-stack h w r o (fastAt k)) (o .mem .chains (fastAt k)))
 
 -- ---- the machine's drain, from the stack as it is: t takes the head of a stack of M; f is what is done with it, and leaves the stacks of M as they are
 abbrev pub drainOf : (ℕ → Heap → Ran Got) → (ℕ → Heap → Ran ℕ) → ℕ → Heap → Ran (Unit {0})

@@ -39,7 +39,7 @@ pub fn consolidate(a: &mut [u8], r: &mut [u32])
 }
 
 pub fn any_fast(r: &[u32]) -> bool
-    requires { ⌜ length (now r) ≡ 395 ⌝ }
+    requires { ⌜ length (now r) ≡ 396 ⌝ }
     ensures { λ t. ⌜ Told (now (r .entry)) t ⌝ }
 {
     let mut k: usize = 0;

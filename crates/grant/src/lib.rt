@@ -79,7 +79,7 @@ pub fn seek(a: &mut [u8], r: &mut [u32], b: u64) -> Got
 
 // Steps 1 to 9, and the record's bytes: a chunk from the cache changes two words of them, the other ways any.
 pub fn grant(a: &mut [u8], control: &mut [u8], r: &mut [u32], b: u64) -> Got
-    requires { ⌜ (b % 16 ≡ 0) × (32 ≤ b) × (b ≤ 262160) × Has Good (arenaWords (now a)) (now r) × (length (now control) ≡ 1580) × (now r ≡ wordsOf (now control)) ⌝ }
+    requires { ⌜ (b % 16 ≡ 0) × (32 ≤ b) × (b ≤ 262160) × Has Good (arenaWords (now a)) (now r) × (length (now control) ≡ 1584) × (now r ≡ wordsOf (now control)) ⌝ }
     ensures { λ g. ⌜ Does Got Good (grant b) (arenaWords (now (a .entry))) (now (r .entry)) g (arenaWords (now (a .exit))) (now (r .exit)) × (now (control .exit) ≡ bytes 4 (now (r .exit))) ⌝ }
 {
     let g1 = grant_steps_1_3::step1(a, r, b);

@@ -159,7 +159,7 @@ pub ahead-is : (h : Heap) (w r : List ℕ) (j z p n : ℕ) → Ok h w r → (a :
 unfolding ahead
 ahead-is h w r j z p n o a =
     ap (λ (m : ℕ). length (chunksFrom (length w) w m)) (a .gap .right)
-    ∙ ap length (walk-list (length w) w (a .ys)
+    ∙ ap length (walk-list 1 (length w) w (a .ys)
     (list-short h w (o .shape) (o .mem) (a .ys) (λ x. omega (arith, ahead-cnt h w r j z p n o a x, cnt-le-all x (h .bins) j, o .shape .own x)))
     (ahead-chunks h w r j z p n o a) (links-chain w (lst none64 (a .xs)) (a .ys) (ahead-links h w r j z p n o a)))
 

@@ -28,7 +28,7 @@ ghost use Rattle.grant_step_5.specs.Loop.{Full};
 
 // Whether c, the last of unsorted and of size z, is the only one, the last remainder, and large enough to be split for a small b.
 fn is_lone(r: &[u32], c: Chunk, z: u64, b: u64) -> bool
-    requires { ⌜ length (now r) ≡ 395 ⌝ }
+    requires { ⌜ length (now r) ≡ 396 ⌝ }
     ensures { λ t. ⌜ t ≡ loneIn (now (r .entry)) b (c .0) z ⌝ }
 {
     if LARGE <= b {

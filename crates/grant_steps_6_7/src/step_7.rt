@@ -21,7 +21,7 @@ ghost use Rattle.grant_steps_6_7.specs.Finds.{FirstBin};
 
 // The first non-empty bin above j.
 fn first_bin(r: &[u32], j: usize) -> Got
-    requires { ⌜ (j ≤ 126) × (length (now r) ≡ 395) ⌝ }
+    requires { ⌜ (j ≤ 126) × (length (now r) ≡ 396) ⌝ }
     ensures { λ g. ⌜ FirstBin (now (r .entry)) j g ⌝ }
 {
     let mut i = j + 1;

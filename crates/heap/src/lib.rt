@@ -70,10 +70,15 @@ fn fault_numbers(x: Audited) -> HeapFault
 }
 
 #[no_mangle]
-pub extern "C" fn heap_open(arena: &mut [u8], control: &mut [u8], key: u64) -> HeapAnswer
-    ensures { λ x. ⌜ back (now (arena .exit)) (now (control .exit)) x ≡ numbered (openCall (now (arena .entry)) (now (control .entry)) key) ⌝ }
+pub extern "C" fn heap_open(
+    arena: &mut [u8],
+    control: &mut [u8],
+    key: u64,
+    edition: u32,
+) -> HeapAnswer
+    ensures { λ x. ⌜ back (now (arena .exit)) (now (control .exit)) x ≡ numbered (openCall (now (arena .entry)) (now (control .entry)) key edition) ⌝ }
 {
-    let x = calls::open(arena, control, key);
+    let x = calls::open(arena, control, key, edition);
     answer_numbers(x)
 }
 

@@ -50,7 +50,7 @@ output =
     83 ∷ 32 ∷ 48 ∷ 32 ∷ 48 ∷ 32 ∷ 48 ∷ 32 ∷ 48 ∷ 10 ∷
     71 ∷ 32 ∷ 48 ∷ 32 ∷ 49 ∷ 54 ∷ 32 ∷ 50 ∷ 48 ∷ 48 ∷ 32 ∷ 50 ∷ 48 ∷ 56 ∷ 10 ∷ []
 
-worked-example : same? (printed (linesFrom [] script) (run (replicate 256 0) (replicate 1580 0) [] 0 0 false)) output ≡ true
+worked-example : same? (printed (linesFrom [] script) (run (replicate 256 0) (replicate 1584 0) [] 0 0 false)) output ≡ true
 unfolding script output linesFrom printed lineStep placedStep called lineOf numberOf digitsFrom decimal field callText questionText number numberFrom words digits bytes arenaWords need usable cacheOf fastOf binOf largeBin recordOf absorb joinNext putDown join releasePast release drain drains consolidate emptying joining step1 moveFast step2 takeLast moveLasts step3 step4 split sortIn splitLone keep turnAt turn swept sweep step5 carve step8 step6 step7 step9 pass again from4 seek grant listAt tilesOf stacksOf binsOf tileFault goodFrom listFault flagFault auditBy auditCall closedRecord openCall grantCall releaseCall jobCall
 worked-example = refl
 
@@ -79,6 +79,6 @@ resizes-printed =
     90 ∷ 32 ∷ 50 ∷ 32 ∷ 48 ∷ 32 ∷ 48 ∷ 32 ∷ 49 ∷ 50 ∷ 56 ∷ 10 ∷
     90 ∷ 32 ∷ 53 ∷ 32 ∷ 48 ∷ 32 ∷ 48 ∷ 32 ∷ 49 ∷ 50 ∷ 56 ∷ 10 ∷ []
 
-worked-resizes : same? (printed (linesFrom [] resizes) (run (replicate 256 0) (replicate 1580 0) [] 0 0 false)) resizes-printed ≡ true
+worked-resizes : same? (printed (linesFrom [] resizes) (run (replicate 256 0) (replicate 1584 0) [] 0 0 false)) resizes-printed ≡ true
 unfolding resizes resizes-printed linesFrom printed lineStep placedStep called lineOf numberOf digitsFrom beforeBlank behindBlank decimal field callText questionText number numberFrom words digits bytes arenaWords need usable cacheOf fastOf binOf largeBin recordOf absorb joinNext putDown join releasePast release drain drains consolidate emptying joining step1 moveFast step2 takeLast moveLasts step3 step4 split sortIn splitLone keep turnAt turn swept sweep step5 carve step8 step6 step7 step9 pass again from4 seek grant nextP finish resize listAt tilesOf stacksOf binsOf tileFault goodFrom listFault flagFault auditBy auditCall closedRecord openCall grantCall releaseCall resizeCall jobCall
 worked-resizes = refl

@@ -53,7 +53,7 @@ fn turn(log: Log, arena: &mut [u8], control: &mut [u8], out: &mut [u8]) -> Log
 
 fn main() {
     let mut arena = [0u8; 49152];
-    let mut control = [0u8; 1580];
+    let mut control = [0u8; 1584];
     let mut out = out_buffer();
     let begun = script_run::begin(&mut arena, &mut control, &mut out);
     let mut log = write_printed(begun, &out);

@@ -6,10 +6,10 @@ use image::ARENA_AT;
 use machine::Answer;
 
 // The image of the longest arena that heaplog opens.
-fn file_buffer() -> [u8; 50741]
-    ensures { λ b. ⌜ 50741 ≡ length b ⌝ }
+fn file_buffer() -> [u8; 50745]
+    ensures { λ b. ⌜ 50745 ≡ length b ⌝ }
 {
-    [0u8; 50741]
+    [0u8; 50745]
 }
 
 // The image of the arena goes to the file of that path, by way of the lent bytes. One of no allowed length was not opened, and its image is refused.

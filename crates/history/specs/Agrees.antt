@@ -14,12 +14,13 @@ use Rattle.machine.specs.declared.Answer.the-variants.{Done, Granted, Refused}
 use Rattle.machine.specs.declared.HeapAnswer.{HeapAnswer}
 use Rattle.history.specs.Histories.{Event, Grant, Release, Resize, Emptying, Joining, Store, Block, holds?, drop, State, state, arenaIn, recordIn, blocksIn, next, run, answerOf, answers}
 
--- ---- a record but for the key, which is its last 8 bytes; and but for all that an open gives: the length too, which is its first 4
-abbrev pub butKey : List ℕ → List ℕ
-butKey r = L.take 1572 r
+-- ---- a record but for what is chosen at an open, key and edition, which are its last 12 bytes; and but for all that an open gives: the length too, which is its
+-- first 4
+abbrev pub butChoice : List ℕ → List ℕ
+butChoice r = L.take 1572 r
 
 abbrev pub butGiven : List ℕ → List ℕ
-butGiven r = L.drop 4 (butKey r)
+butGiven r = L.drop 4 (butChoice r)
 
 -- ---- the offsets that holders have written and live blocks have held ever since. After an event they are those from before it and the one that is stored now, as
 -- far as blocks held still have them

@@ -28,7 +28,7 @@ use Rattle.sound.specs.Tiles.{lt-or-le}
 use Rattle.sound.specs.Ends.{Ends}
 use Rattle.sound.specs.Release.{both-true}
 use Rattle.sound.specs.Live.{live-loose}
-use Rattle.history.specs.Histories.{Event, Grant, Release, Resize, Emptying, Joining, Store, Block, holds?, drop, State, state, heapAt, blocksIn, granted, released, resized, kept, next, run, answerOf, answerTo, answers}
+use Rattle.history.specs.Histories.{Event, Grant, Release, Resize, Emptying, Joining, Store, Block, holds?, drop, State, state, heapAt, blocksIn, granted, released, resized, kept, next, run, answerOf, answerTo, answers, Choice}
 use Rattle.calls_consequences.specs.Written.{written-read}
 use Rattle.calls_consequences.specs.Remainder.{Fine, grant-fine, release-fine, resize-fine}
 use Rattle.calls_consequences.specs.Consequences.{Job, emptying-job, joining-job}
@@ -36,7 +36,7 @@ use Rattle.history.specs.Ready.{Ready, ReadyAt, ready-fine}
 use Rattle.history.specs.Called.{grant-large, grant-called, release-called, job-called, Way, Null, Zero, Large, Dead, Through, way, resizeBy, resize-called}
 use Rattle.history.specs.Stores.{store-view}
 use Rattle.history.specs.Like.{Given, Like}
-use Rattle.history.specs.Keyed.{rekeyed, withKey, Keyed, grant-keyed, release-keyed, resize-keyed, emptying-keyed, joining-keyed}
+use Rattle.history.specs.Chosen.{rechosen, withChoice, Chosen, grant-chosen, release-chosen, resize-chosen, emptying-chosen, joining-chosen}
 use Rattle.history.specs.Runs.{resized-null, resized-zero, next-ready}
 
 -- what a grant's steps answer, and a resize's
@@ -275,30 +275,30 @@ module _ (Q : Heap → Heap → Type 0) (M : Event → Heap → Heap → Type 0)
       let f : answerTo e s ≡ answerTo e t = o .0 in
       cc
 
--- ---- heaps equal but for the key, the second's key q, whatever the events
-abbrev pub ButKey : ℕ → Heap → Heap → Type 0
-ButKey q h g = g ≡ withKey q h
+-- ---- heaps equal but for what was chosen, q for the second, whatever the events
+abbrev pub ButChoice : Choice → Heap → Heap → Type 0
+ButChoice q h g = g ≡ withChoice q h
 
 abbrev pub Any : Event → Heap → Heap → Type 0
 Any e h g = Unit {0}
 
-module _ (q : ℕ) where
-  of-key : {A : Type 0} (f : Heap → Ran A) → ((h : Heap) → Keyed q (f h) (f (withKey q h))) → (h g : Heap) → ButKey q h g → Keyed q (f h) (f g)
-  of-key f k h g e = subst (λ (x : Heap). Keyed q (f h) (f x)) (sym e) (k h)
+module _ (q : Choice) where
+  of-choice : {A : Type 0} (f : Heap → Ran A) → ((h : Heap) → Chosen q (f h) (f (withChoice q h))) → (h g : Heap) → ButChoice q h g → Chosen q (f h) (f g)
+  of-choice f k h g e = subst (λ (x : Heap). Chosen q (f h) (f x)) (sym e) (k h)
 
-  pub butkey-steady : Steady (ButKey q) Any
-  butkey-steady = record {
+  pub butchoice-steady : Steady (ButChoice q) Any
+  butchoice-steady = record {
     live = λ h g G G′ e c. ap (λ (k : Heap). live? k c) (sym e);
-    answer = λ h g G G′ e n l i. said-like (rekeyed q) (grant (need n) h) (grant (need n) g) (of-key (grant (need n)) (grant-keyed q (need n)) h g e);
-    grants = λ h g G G′ e n l i. of-key (grant (need n)) (grant-keyed q (need n)) h g e .heap;
-    releases = λ h g G G′ e m i l. of-key (release (m - 16)) (release-keyed q (m - 16)) h g e .heap;
+    answer = λ h g G G′ e n l i. said-like (rechosen q) (grant (need n) h) (grant (need n) g) (of-choice (grant (need n)) (grant-chosen q (need n)) h g e);
+    grants = λ h g G G′ e n l i. of-choice (grant (need n)) (grant-chosen q (need n)) h g e .heap;
+    releases = λ h g G G′ e m i l. of-choice (release (m - 16)) (release-chosen q (m - 16)) h g e .heap;
     resized = λ h g G G′ e m n i l.
-        said-like (rekeyed q) (resize (m - 16) (need n) h) (resize (m - 16) (need n) g) (of-key (resize (m - 16) (need n)) (resize-keyed q (m - 16) (need n)) h g e);
-    resizes = λ h g G G′ e m n i l. of-key (resize (m - 16) (need n)) (resize-keyed q (m - 16) (need n)) h g e .heap;
+        said-like (rechosen q) (resize (m - 16) (need n) h) (resize (m - 16) (need n) g) (of-choice (resize (m - 16) (need n)) (resize-chosen q (m - 16) (need n)) h g e);
+    resizes = λ h g G G′ e m n i l. of-choice (resize (m - 16) (need n)) (resize-chosen q (m - 16) (need n)) h g e .heap;
     nulls = λ h g n i. tt;
     zeros = λ h g m i. tt;
-    empties = λ h g G G′ e i. of-key emptying (emptying-keyed q) h g e .heap;
-    joins = λ h g G G′ e i. of-key joining (joining-keyed q) h g e .heap;
+    empties = λ h g G G′ e i. of-choice emptying (emptying-chosen q) h g e .heap;
+    joins = λ h g G G′ e i. of-choice joining (joining-chosen q) h g e .heap;
   }
 
 pub any-always : (es : List Event) (s t : State) → Always Any es s t

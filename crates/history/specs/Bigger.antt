@@ -1,5 +1,5 @@
--- Document 02, (ii), "a bigger arena changes nothing": what is asked of the events. What then agrees is Agrees, of the records but for the length and the key. Definitions
--- only; that it holds stands in BiggerHolds.
+-- Document 02, (ii), "a bigger arena changes nothing": what is asked of the events. What then agrees is Agrees, of the records but for the length and what was chosen.
+-- Definitions only; that it holds stands in BiggerHolds.
 use mathlib.Core.Path.{_≡_}
 use mathlib.Core.Bool.{true, false}
 use Prim.Native.Nat.{_-_, _≤_, _<_}

@@ -1,9 +1,9 @@
--- A bigger arena changes nothing, whatever the two keys are: two heaps equal but for the length and the key are an instance of the relation that every step keeps
--- (Alike). Assumes nothing.
+-- A bigger arena changes nothing, whatever the two keys and editions are: two heaps equal but for the length and what was chosen are an instance of the relation that
+-- every step keeps (Alike). Assumes nothing.
 use mathlib.Core.Path.{_≡_, refl, sym, ap, _∙_, subst}
 use mathlib.Core.List.{List}
 use mathlib.Core.Bool.{false}
-use Prim.Native.Nat.{ℕ, _-_, _^_, _≤_, _<_}
+use Prim.Native.Nat.{ℕ, _-_, _≤_, _<_}
 use native.Mathlib.Omega.{arith}
 use lib.ListN.{length}
 use Rattle.sizes.specs.Sizes.{need}
@@ -13,7 +13,7 @@ use Rattle.machine.specs.Release.{release, emptying, joining}
 use Rattle.machine.specs.Grant.{grant}
 use Rattle.machine.specs.declared.HeapAnswer.{HeapAnswer}
 use Rattle.calls_consequences.specs.Results.{Lent}
-use Rattle.history.specs.Histories.{Event, State, heapAt, begin}
+use Rattle.history.specs.Histories.{Event, State, heapAt, Choice, Allowed, begin}
 use Rattle.history.specs.Performed.{Began, Did}
 use Rattle.history.specs.Agrees.{butGiven, Agrees, AgreesPerformed}
 use Rattle.history.specs.PerformedRuns.{began-is, began-ready}
@@ -25,7 +25,7 @@ use Rattle.history.specs.Emptied.{begin-opened, begin-blocks}
 use Rattle.history.specs.Like.{Given, given, withGiven, answer, Like, upTo9, short?, Few, upTo9-len, grant-like, release-kin, emptying-kin, joining-like}
 use Rattle.history.specs.Bigger.{Premise}
 
--- ---- equal but for the length and the key, the first the shorter
+-- ---- equal but for the length and what was chosen, the first the shorter
 pub record Longer (h g : Heap) : Type 0 where
   pub same : g ≡ withGiven (λ o. given g) h
   pub least : h .len ≤ g .len
@@ -88,15 +88,15 @@ longer-steady = record {
 }
 
 -- ---- two newly opened arenas
-opened-longer : (m n q q′ : ℕ) → m ≤ n → Longer (opened m q) (opened n q′)
+opened-longer : (m n : ℕ) (q q′ : Choice) → m ≤ n → Longer (opened m (q .key) (q .edition)) (opened n (q′ .key) (q′ .edition))
 opened-longer m n q q′ l = record { same = refl; least = l }
 
-module _ (a r a′ r′ : List ℕ) (q q′ : ℕ) (L : Lent a r) (L′ : Lent a′ r′) (k : q < 2 ^ 64) (k′ : q′ < 2 ^ 64) (less : length a ≤ length a′) where
+module _ (a r a′ r′ : List ℕ) (q q′ : Choice) (L : Lent a r) (L′ : Lent a′ r′) (k : Allowed q) (k′ : Allowed q′) (less : length a ≤ length a′) where
   first : Alike Longer (begin a r q) (begin a′ r′ q′)
   first = alike-of Longer (begin a r q) (begin a′ r′ q′)
       (subst (λ (h : Heap). Longer h (heapAt (begin a′ r′ q′))) (sym (begin-opened a r q L k))
-      (subst (λ (g : Heap). Longer (opened (length a) q) g) (sym (begin-opened a′ r′ q′ L′ k′)) (opened-longer (length a) (length a′) q q′ less)))
-      (begin-blocks a r q L ∙ sym (begin-blocks a′ r′ q′ L′))
+      (subst (λ (g : Heap). Longer (opened (length a) (q .key) (q .edition)) g) (sym (begin-opened a′ r′ q′ L′ k′)) (opened-longer (length a) (length a′) q q′ less)))
+      (begin-blocks a r q L k ∙ sym (begin-blocks a′ r′ q′ L′ k′))
 
   -- ---- the theorem, of the calls on bytes
   pub bigger-agrees : (es : List Event) → Always Premise es (begin a r q) (begin a′ r′ q′) → Agrees butGiven es (begin a r q) (begin a′ r′ q′)

@@ -8,7 +8,6 @@ use Prim.Native.Nat.{ℕ, _-_, _%_, _≤_, _<_}
 use lib.Dec.{eqb, ltb, leb}
 use lib.ListN.{length}
 use borrow.Author.Tests.{eq-eqb, le-leb, lt-ltb, le-ltb}
-use Rattle.le.specs.Number.{bytes}
 use Rattle.le.specs.Arena.{arenaWords}
 use Rattle.sizes.specs.Limits.{mostRequest}
 use Rattle.sizes.specs.Sizes.{need}
@@ -19,18 +18,20 @@ use Rattle.machine.specs.Release.{release}
 use Rattle.machine.specs.Grant.{grant}
 use Rattle.machine.specs.Resize.{resize}
 use Rattle.machine.specs.Audit.{sound?, auditOf}
-use Rattle.machine.specs.Calls.{After, after, left, shape?, arenaAllowed?, heapIn, wordsOf, onSound, refused, closedRecord, granted, done, openCall, grantCall, releaseCall, resizeCall, jobCall}
+use Rattle.machine.specs.Calls.{After, after, left, shape?, arenaAllowed?, heapIn, wordsOf, onSound, refused, granted, done, openCall, grantCall, releaseCall, resizeCall, jobCall}
 use Rattle.machine.specs.declared.Refusal.the-variants as R
-use Rattle.machine.specs.declared.Answer.the-variants.{Done, Refused}
+use Rattle.machine.specs.declared.Answer.the-variants.{Done}
 use Rattle.sound.specs.Relation.{Sound}
 use Rattle.sound.specs.Tiles.{lt-or-le}
 use Rattle.audit.specs.Exact.{audit-complete}
 use Rattle.calls.specs.Ways.{resize-null, resize-zero, resize-request, resize-dead, resize-live}
 use Rattle.calls_consequences.specs.Results.{Lent}
+use Rattle.calls_consequences.specs.Cases.{open-called}
+use Rattle.history.specs.Histories.{Choice, Allowed}
 
-pub lent-shape : (a r : List ℕ) → Lent a r → (eqb (length r) 1580 ≡ true) × (arenaAllowed? (length a) ≡ true)
+pub lent-shape : (a r : List ℕ) → Lent a r → (eqb (length r) 1584 ≡ true) × (arenaAllowed? (length a) ≡ true)
 lent-shape a r L = (
-  eq-eqb (length r) 1580 (L .long),
+  eq-eqb (length r) 1584 (L .long),
   ap (λ (t : Bool). both t (both (leb 32 (length a)) (leb (length a) 262144))) (eq-eqb (length a % 16) 0 (L .even))
       ∙ ap (λ (t : Bool). both t (leb (length a) 262144)) (le-leb 32 (length a) (L .least)) ∙ le-leb (length a) 262144 (L .most),
 )
@@ -41,13 +42,9 @@ shape-both a r L = let s = lent-shape a r L in ap (λ (t : Bool). both t (arenaA
 if : (t : Bool) (x y : After) → After
 if t x y = elim t [ true ↦ x | false ↦ y ]
 
-pub open-lent : (a r : List ℕ) (q : ℕ) → Lent a r → openCall a r q ≡ left a (opened (length a) q) (size 0 (length a) 1 ∷ []) Done
-unfolding openCall if
-open-lent a r q L =
-    let s = lent-shape a r L in
-    let x : After = left a (opened (length a) q) (size 0 (length a) 1 ∷ []) Done in
-    let y : After = after a (bytes 4 closedRecord) (Refused R.Shape) in
-    ap (λ (t : Bool). if t (if (arenaAllowed? (length a)) x y) (refused a r R.Shape)) (s .0) ∙ ap (λ (t : Bool). if t x y) (s .1)
+pub open-lent : (a r : List ℕ) (q : Choice) → Lent a r → Allowed q
+    → openCall a r (q .key) (q .edition) ≡ left a (opened (length a) (q .key) (q .edition)) (size 0 (length a) 1 ∷ []) Done
+open-lent a r q L k = sym (open-called a r (q .key) (q .edition) L (k .edition))
 
 -- ---- the ways through a resize of m to n on a heap h: null is a grant; else a new length of 0 is a release; else numbers 2 and 4; else its steps
 pub data Way (h : Heap) (m n : ℕ) : Type 0 where

@@ -4,7 +4,7 @@ use mathlib.Core.Path.{_≡_, refl, sym, ap, _∙_, subst}
 use mathlib.Core.List.{List, [], _∷_, _++_}
 use mathlib.Core.Bool.{Bool, true, false}
 use mathlib.Core.Logic.{⊎-elim}
-use Prim.Native.Nat.{ℕ, suc, _+_, _-_, _%_, _^_, _<_}
+use Prim.Native.Nat.{ℕ, suc, _+_, _-_, _%_, _<_}
 use native.Mathlib.Omega.{arith}
 use lib.ListN.{getD, set, List·getD-eq-default}
 use Rattle.sizes.specs.Limits.{none32}
@@ -16,7 +16,7 @@ use Rattle.sound.specs.Tiles.{lt-or-le}
 use Rattle.sound.specs.Drain.{NoFast}
 use Rattle.calls_consequences.specs.Results.{Lent, heapLeft}
 use Rattle.calls_consequences.specs.Consequences.{emptying-leaves-cache-empty, joining-leaves-fast-empty, joining-leaves-cache}
-use Rattle.history.specs.Histories.{Event, Grant, Release, Resize, Emptying, Joining, Store, Block, holds?, State, state, kept, next, run, begin}
+use Rattle.history.specs.Histories.{Event, Grant, Release, Resize, Emptying, Joining, Store, Block, holds?, State, state, kept, next, run, Choice, Allowed, begin}
 use Rattle.history.specs.Demand3.{MendedAt, Between, Quiet}
 use Rattle.history.specs.Ready.{Ready, ReadyAt}
 use Rattle.history.specs.Called.{sound-in}
@@ -114,7 +114,7 @@ run-joined : (es fs : List Event) (s : State) → run (thenJoined es fs) s ≡ n
 unfolding run
 run-joined es fs s = run-append es (Emptying ∷ (fs ++ Joining ∷ [])) s ∙ run-append fs (Joining ∷ []) (next Emptying (run es s))
 
-module _ (a r : List ℕ) (q : ℕ) (L : Lent a r) (k : q < 2 ^ 64) (es fs : List Event) (Q : Quiet fs) where
+module _ (a r : List ℕ) (q : Choice) (L : Lent a r) (k : Allowed q) (es fs : List Event) (Q : Quiet fs) where
   pub run-calm : CalmAt (run (thenJoined es fs) (begin a r q))
   run-calm =
       let s : State = run es (begin a r q) in

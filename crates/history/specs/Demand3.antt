@@ -4,7 +4,7 @@ use mathlib.Core.Path.{_≡_}
 use mathlib.Core.List.{List, [], _∷_}
 use mathlib.Core.Bool.{Bool, false}
 use mathlib.Core.Logic.{_⊎_}
-use Prim.Native.Nat.{ℕ, _+_, _-_, _^_, _≤_, _<_}
+use Prim.Native.Nat.{ℕ, _+_, _-_, _≤_, _<_}
 use lib.Dec.{eqb}
 use lib.ListN.{length}
 use Rattle.le.specs.Number.{number}
@@ -13,9 +13,9 @@ use Rattle.machine.specs.Heap.{binned, live?}
 use Rattle.machine.specs.Calls.{heapIn, auditCall, faultNumbers}
 use Rattle.machine.specs.declared.HeapAnswer.{HeapAnswer}
 use Rattle.calls_consequences.specs.Results.{Lent}
-use Rattle.history.specs.Histories.{Event, Grant, Release, Resize, Emptying, Joining, Store, Block, State, state, recordIn, blocksIn}
+use Rattle.history.specs.Histories.{Event, Grant, Release, Resize, Emptying, Joining, Store, Block, State, state, recordIn, blocksIn, Choice, Allowed}
 use Rattle.history.specs.Performed.{Began, Did}
-use Rattle.history.specs.Agrees.{butKey}
+use Rattle.history.specs.Agrees.{butChoice}
 
 -- offset x lies in the chunk of the block b: its header and all its usable bytes but the last eight, which are the next chunk's previous size
 abbrev pub In : Block → ℕ → Type 0
@@ -97,13 +97,13 @@ abbrev pub Quiet : List Event → Type 0
 Quiet [] = Unit {0}
 Quiet (e ∷ es) = Between e × Quiet es
 
--- ---- a state is as a newly opened arena of n bytes: whatever bytes b and r were opened, o, and with whatever key q, the same events performed on both are
--- answered with the same numbers and leave the same record but for the key, none (the record that there is), one or many
+-- ---- a state is as a newly opened arena of n bytes: whatever bytes b and r were opened, o, with whatever key and in either edition, q, the same events performed on
+-- both are answered with the same numbers and leave the same record but for what was chosen, none (the record that there is), one or many
 pub record New (n : ℕ) (s : State) : Type 0 where
-  pub told : (b r : List ℕ) (q : ℕ) (x : HeapAnswer) (o : State) → Lent b r → q < 2 ^ 64 → length b ≡ n → Began b r q x o
+  pub told : (b r : List ℕ) (q : Choice) (x : HeapAnswer) (o : State) → Lent b r → Allowed q → length b ≡ n → Began b r q x o
       → (es : List Event) (xs ys : List HeapAnswer) (t u : State) → Did s es xs t → Did o es ys u → xs ≡ ys
-  pub recs : (b r : List ℕ) (q : ℕ) (x : HeapAnswer) (o : State) → Lent b r → q < 2 ^ 64 → length b ≡ n → Began b r q x o
-      → (es : List Event) (xs ys : List HeapAnswer) (t u : State) → Did s es xs t → Did o es ys u → butKey (recordIn t) ≡ butKey (recordIn u)
+  pub recs : (b r : List ℕ) (q : Choice) (x : HeapAnswer) (o : State) → Lent b r → Allowed q → length b ≡ n → Began b r q x o
+      → (es : List Event) (xs ys : List HeapAnswer) (t u : State) → Did s es xs t → Did o es ys u → butChoice (recordIn t) ≡ butChoice (recordIn u)
 
 -- ---- demand 3 of a history that was performed on an arena of n bytes: the open answered x, the calls xs and it left t; then an emptying answered y; then,
 -- with no grant, release or resize between, calls answered ys and it left v; then a joining answered z and left w. No call is refused for shape or soundness,

@@ -1,9 +1,9 @@
--- Demand 3, second half: where no block is held after an emptying and its joining, the heap that is read is the opened one with the key of its own open, so all later
--- answers are a new arena's, and so is the record but for the key, whatever bytes the two arenas hold and whatever the new key is. Assumes nothing.
+-- Demand 3, second half: where no block is held after an emptying and its joining, the heap that is read is the opened one with what was chosen at its own open, so all
+-- later answers are a new arena's, and so is the record but for what was chosen, whatever bytes the two arenas hold and whatever the new choice is. Assumes nothing.
 use mathlib.Core.Path.{_≡_, refl, sym, ap, _∙_, subst}
 use mathlib.Core.List.{List, [], _∷_, _++_}
 use mathlib.Core.Logic.{⊎-elim}
-use Prim.Native.Nat.{ℕ, zero, suc, _^_, _<_}
+use Prim.Native.Nat.{ℕ, zero, suc}
 use native.Mathlib.Omega.{arith}
 use lib.ListN.{length, getD, replicate}
 use Rattle.le.specs.Arena.{arenaWords}
@@ -16,21 +16,21 @@ use Rattle.machine.specs.Writes.{size, apply}
 use Rattle.machine.specs.Calls as C
 use Rattle.sound.specs.Relation.{all, flags}
 use Rattle.sound.specs.Edits.{snoc-tiles}
-use Rattle.sound.specs.Opened.{opened-ends}
-use Rattle.history.specs.Histories.{Event, Block, State, state, heapAt, arenaIn, blocksIn, kept, run, begin}
+use Rattle.history.specs.Histories.{Event, Block, State, state, heapAt, arenaIn, blocksIn, kept, run, Choice, Allowed, begin}
 use Rattle.calls_consequences.specs.Results.{Lent}
 use Rattle.calls_consequences.specs.Written.{written-read}
 use Rattle.history.specs.Demand3.{Quiet}
 use Rattle.history.specs.Ready.{Ready, ReadyAt}
 use Rattle.history.specs.Called.{open-lent}
-use Rattle.history.specs.Runs.{begin-ready, run-ready}
+use Rattle.history.specs.Runs.{begun, begin-ready, run-ready}
 use Rattle.history.specs.Lengths.{run-length, begin-length}
 use Rattle.history.specs.Mending.{last-of, adjacent, start-at}
 use Rattle.history.specs.Calm.{Calm, CalmAt, no-stack, thenJoined, run-calm}
-use Rattle.history.specs.Agrees.{butKey, Agrees}
-use Rattle.history.specs.Keyed.{withKey}
-use Rattle.history.specs.Alike.{Alike, alike-of, ButKey, Any, butkey-steady, any-always}
-use Rattle.history.specs.RecordBytes.{records-key}
+use Rattle.history.specs.Agrees.{butChoice, Agrees}
+use Rattle.history.specs.Like.{given}
+use Rattle.history.specs.Chosen.{withChoice}
+use Rattle.history.specs.Alike.{Alike, alike-of, ButChoice, Any, butchoice-steady, any-always}
+use Rattle.history.specs.RecordBytes.{records-choice}
 use Rattle.history.specs.AgreesHold.{alike-agrees}
 
 -- ---- an emptied heap is the opened one
@@ -47,18 +47,19 @@ all-empty (suc n) (l ∷ ls) e f =
     let q : ls ≡ replicate n [] = all-empty n ls (omega (arith, e)) (λ k. f (suc k)) in
     cc
 
-heap-of : ℕ → List Tile → List (List ℕ) → List (List ℕ) → ℕ → ℕ → Heap
-heap-of n ts ss bs m q = record { len = n; tiles = ts; stacks = ss; bins = bs; remainder = m; key = q }
+heap-of : Choice → ℕ → List Tile → List (List ℕ) → List (List ℕ) → ℕ → Heap
+heap-of q n ts ss bs m = record { len = n; tiles = ts; stacks = ss; bins = bs; remainder = m; key = q .key; edition = q .edition }
 
 heap-same : (h : Heap) (n m : ℕ) (ts : List Tile) (ss bs : List (List ℕ)) → h .len ≡ n → h .tiles ≡ ts → h .stacks ≡ ss → h .bins ≡ bs → h .remainder ≡ m
-    → h ≡ record { len = n; tiles = ts; stacks = ss; bins = bs; remainder = m; key = h .key }
+    → h ≡ record { len = n; tiles = ts; stacks = ss; bins = bs; remainder = m; key = h .key; edition = h .edition }
 unfolding heap-of
 heap-same h n m ts ss bs a b c d e =
-    ap (λ (x : ℕ). heap-of x (h .tiles) (h .stacks) (h .bins) (h .remainder) (h .key)) a
-    ∙ ap (λ (x : List Tile). heap-of n x (h .stacks) (h .bins) (h .remainder) (h .key)) b
-    ∙ ap (λ (x : List (List ℕ)). heap-of n ts x (h .bins) (h .remainder) (h .key)) c
-    ∙ ap (λ (x : List (List ℕ)). heap-of n ts ss x (h .remainder) (h .key)) d
-    ∙ ap (λ (x : ℕ). heap-of n ts ss bs x (h .key)) e
+    let q : Choice = given h .choice in
+    ap (λ (x : ℕ). heap-of q x (h .tiles) (h .stacks) (h .bins) (h .remainder)) a
+    ∙ ap (λ (x : List Tile). heap-of q n x (h .stacks) (h .bins) (h .remainder)) b
+    ∙ ap (λ (x : List (List ℕ)). heap-of q n ts x (h .bins) (h .remainder)) c
+    ∙ ap (λ (x : List (List ℕ)). heap-of q n ts ss x (h .remainder)) d
+    ∙ ap (λ (x : ℕ). heap-of q n ts ss bs x) e
 
 module _ (a r : List ℕ) (R : Ready a r []) (c : Calm (C.heapIn a r)) where
   abbrev h : Heap
@@ -79,29 +80,30 @@ module _ (a r : List ℕ) (R : Ready a r []) (c : Calm (C.heapIn a r)) where
   no-bin : (j : ℕ) → bin h j ≡ []
   no-bin j = nothing-in (bin h j) (λ x. omega (arith, cnt-le-all x (h .bins) j, R .sound .good .shape .own x, ap (λ (ts : List Tile). cnt x (startsFrom 0 ts)) no-tile))
 
-  pub emptied-view : h ≡ opened (length a) (h .key)
+  pub emptied-view : h ≡ opened (length a) (h .key) (h .edition)
   emptied-view =
       let s = R .sound .good .shape in
       heap-same h (length a) none32 [] (replicate 74 []) (replicate 127 []) (omega (arith, length-arenaWords a, R .lent .even)) no-tile
       (all-empty 74 (h .stacks) (s .stacked74) (c .empty)) (all-empty 127 (h .bins) (s .binned127) no-bin) (c .none)
 
-pub calm-opened : (s : State) → ReadyAt s → CalmAt s → blocksIn s ≡ [] → heapAt s ≡ opened (length (arenaIn s)) (heapAt s .key)
+pub calm-opened : (s : State) → ReadyAt s → CalmAt s → blocksIn s ≡ [] → heapAt s ≡ opened (length (arenaIn s)) (heapAt s .key) (heapAt s .edition)
 calm-opened (state a r bs) R c e = emptied-view a r (subst (λ (l : List Block). Ready a r l) e R) c
 
-pub begin-opened : (a r : List ℕ) (q : ℕ) → Lent a r → q < 2 ^ 64 → heapAt (begin a r q) ≡ opened (length a) q
+pub begin-opened : (a r : List ℕ) (q : Choice) → Lent a r → Allowed q → heapAt (begin a r q) ≡ opened (length a) (q .key) (q .edition)
 unfolding begin
 begin-opened a r q L k =
     let n : ℕ = length a in
-    let o = opened-ends n q (arenaWords a) k (L .even) (L .least) (L .most) (omega (arith, length-arenaWords a, L .even)) in
-    ap (λ (x : C.After). heapAt (kept [] x)) (open-lent a r q L) ∙ written-read (opened n q) (o .0) (apply (size 0 n 1 ∷ []) (arenaWords a)) (o .1) (omega arith)
+    let o = begun a r q L k in
+    ap (λ (x : C.After). heapAt (kept [] x)) (open-lent a r q L k)
+    ∙ written-read (opened n (q .key) (q .edition)) (o .0) (apply (size 0 n 1 ∷ []) (arenaWords a)) (o .1) (omega arith)
 
-pub begin-blocks : (a r : List ℕ) (q : ℕ) → Lent a r → blocksIn (begin a r q) ≡ []
+pub begin-blocks : (a r : List ℕ) (q : Choice) → Lent a r → Allowed q → blocksIn (begin a r q) ≡ []
 unfolding begin
-begin-blocks a r q L = ap (λ (x : C.After). blocksIn (kept [] x)) (open-lent a r q L)
+begin-blocks a r q L k = ap (λ (x : C.After). blocksIn (kept [] x)) (open-lent a r q L k)
 
--- ---- the theorem: a state that holds no block after an emptying and its joining, against any newly opened arena of that length, with any key
-module _ (a r : List ℕ) (q : ℕ) (L : Lent a r) (k : q < 2 ^ 64) (es fs : List Event) (Q : Quiet fs) (none : blocksIn (run (thenJoined es fs) (begin a r q)) ≡ [])
-    (a′ r′ : List ℕ) (q′ : ℕ) (L′ : Lent a′ r′) (k′ : q′ < 2 ^ 64) (same : length a′ ≡ length a) where
+-- ---- the theorem: a state that holds no block after an emptying and its joining, against any newly opened arena of that length, with any key and in either edition
+module _ (a r : List ℕ) (q : Choice) (L : Lent a r) (k : Allowed q) (es fs : List Event) (Q : Quiet fs) (none : blocksIn (run (thenJoined es fs) (begin a r q)) ≡ [])
+    (a′ r′ : List ℕ) (q′ : Choice) (L′ : Lent a′ r′) (k′ : Allowed q′) (same : length a′ ≡ length a) where
   abbrev s : State
   s = run (thenJoined es fs) (begin a r q)
 
@@ -111,13 +113,13 @@ module _ (a r : List ℕ) (q : ℕ) (L : Lent a r) (k : q < 2 ^ 64) (es fs : Lis
   ready : ReadyAt s
   ready = run-ready (thenJoined es fs) (begin a r q) (begin-ready a r q L k)
 
-  pub emptied-alike : Alike (ButKey q′) (run (thenJoined es fs) (begin a r q)) (begin a′ r′ q′)
+  pub emptied-alike : Alike (ButChoice q′) (run (thenJoined es fs) (begin a r q)) (begin a′ r′ q′)
   emptied-alike =
-      let n : length a′ ≡ length (arenaIn s) = same ∙ sym (run-length (thenJoined es fs) (begin a r q) (begin-ready a r q L k) ∙ begin-length a r q L) in
-      alike-of (ButKey q′) s t
-      (begin-opened a′ r′ q′ L′ k′ ∙ ap (λ (m : ℕ). opened m q′) n ∙ ap (withKey q′) (sym (calm-opened s ready (run-calm a r q L k es fs Q) none)))
-      (none ∙ sym (begin-blocks a′ r′ q′ L′))
+      let n : length a′ ≡ length (arenaIn s) = same ∙ sym (run-length (thenJoined es fs) (begin a r q) (begin-ready a r q L k) ∙ begin-length a r q L k) in
+      alike-of (ButChoice q′) s t
+      (begin-opened a′ r′ q′ L′ k′ ∙ ap (λ (m : ℕ). opened m (q′ .key) (q′ .edition)) n ∙ ap (withChoice q′) (sym (calm-opened s ready (run-calm a r q L k es fs Q) none)))
+      (none ∙ sym (begin-blocks a′ r′ q′ L′ k′))
 
-  pub emptied-agrees : (gs : List Event) → Agrees butKey gs (run (thenJoined es fs) (begin a r q)) (begin a′ r′ q′)
+  pub emptied-agrees : (gs : List Event) → Agrees butChoice gs (run (thenJoined es fs) (begin a r q)) (begin a′ r′ q′)
   emptied-agrees gs =
-      alike-agrees (ButKey q′) Any (butkey-steady q′) butKey (records-key q′) gs s t (any-always gs s t) emptied-alike ready (begin-ready a′ r′ q′ L′ k′)
+      alike-agrees (ButChoice q′) Any (butchoice-steady q′) butChoice (records-choice q′) gs s t (any-always gs s t) emptied-alike ready (begin-ready a′ r′ q′ L′ k′)

@@ -1,12 +1,14 @@
 -- Histories: any bytes, an open, then any calls, and holders that write in the usable bytes of blocks they hold. Over the calls on bytes themselves.
 -- Definitions only.
+use mathlib.Core.Path.{_≡_}
 use mathlib.Core.List.{List, [], _∷_, _++_, map}
 use mathlib.Core.Bool.{Bool, true, false}
-use Prim.Native.Nat.{ℕ, _+_, _%_}
+use Prim.Native.Nat.{ℕ, _+_, _%_, _^_, _<_}
 use lib.Dec.{eqb, ltb, leb}
 use lib.ListN.{set}
 use Rattle.machine.specs.Lists.{both, either}
 use Rattle.machine.specs.Heap.{Heap}
+use Rattle.machine.specs.Audit.{edition?}
 use Rattle.machine.specs.Calls.{After, after, answerNumbers, heapIn, openCall, grantCall, releaseCall, resizeCall, emptyingCall, joiningCall}
 use Rattle.machine.specs.declared.{Answer.Answer, HeapAnswer.HeapAnswer}
 use Rattle.machine.specs.declared.Answer.the-variants.{Done, Granted, Refused}
@@ -108,6 +110,16 @@ answers (e ∷ es) s = answerTo e s ++ answers es (next e s)
 unfoldable pub numbers : List Event → State → List HeapAnswer
 numbers es s = map answerNumbers (answers es s)
 
--- a newly opened arena, over any bytes and with the key q: no block is held
-unfoldable pub begin : List ℕ → List ℕ → ℕ → State
-begin a r q = kept [] (openCall a r q)
+-- what is chosen at an open: the key and the edition
+pub record Choice : Type 0 where
+  pub key : ℕ
+  pub edition : ℕ
+
+-- a choice that an open takes: a key of 64 bits, and one of the two editions
+pub record Allowed (q : Choice) : Type 0 where
+  pub key : q .key < 2 ^ 64
+  pub edition : edition? (q .edition) ≡ true
+
+-- a newly opened arena, over any bytes and with the choice q: no block is held
+unfoldable pub begin : List ℕ → List ℕ → Choice → State
+begin a r q = kept [] (openCall a r (q .key) (q .edition))

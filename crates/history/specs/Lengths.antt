@@ -18,7 +18,7 @@ use Rattle.machine.specs.declared.{Got.Got, Got.the-variants.At, Got.the-varian
 use Rattle.machine.specs.declared.Answer.the-variants.{Done}
 use Rattle.machine.specs.declared.Refusal.the-variants as N
 use Rattle.sound.specs.Tiles.{lt-or-le}
-use Rattle.history.specs.Histories.{Event, Grant, Release, Resize, Emptying, Joining, Store, Block, holds?, State, state, arenaIn, granted, released, resized, kept, next, run, begin}
+use Rattle.history.specs.Histories.{Event, Grant, Release, Resize, Emptying, Joining, Store, Block, holds?, State, state, arenaIn, granted, released, resized, kept, next, run, Choice, Allowed, begin}
 use Rattle.calls_consequences.specs.Results.{Lent}
 use Rattle.calls_consequences.specs.Left.{left-length}
 use Rattle.history.specs.Ready.{Ready, ReadyAt}
@@ -91,6 +91,6 @@ unfolding run
 run-length [] s R = refl
 run-length (e ∷ es) s R = run-length es (next e s) (next-ready e s R) ∙ next-length e s R
 
-pub begin-length : (a r : List ℕ) (q : ℕ) → Lent a r → length (arenaIn (begin a r q)) ≡ length a
+pub begin-length : (a r : List ℕ) (q : Choice) → Lent a r → Allowed q → length (arenaIn (begin a r q)) ≡ length a
 unfolding begin
-begin-length a r q L = ap (λ (x : C.After). length (arenaIn (kept [] x))) (open-lent a r q L) ∙ left-length a r L (size 0 (length a) 1 ∷ [])
+begin-length a r q L k = ap (λ (x : C.After). length (arenaIn (kept [] x))) (open-lent a r q L k) ∙ left-length a r L (size 0 (length a) 1 ∷ [])

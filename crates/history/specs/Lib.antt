@@ -11,7 +11,7 @@ pub mod Stretches
 pub mod Mending
 pub mod Calm
 pub mod Like
-pub mod Keyed
+pub mod Chosen
 pub mod Alike
 pub mod Lengths
 pub mod PerformedRuns
@@ -23,4 +23,4 @@ pub mod Emptied
 pub mod Theorem
 pub mod Bigger
 pub mod BiggerHolds
-pub mod Keys
+pub mod Editions

@@ -1,6 +1,6 @@
--- Two heaps that are equal but for what they were given when they were opened, the length and the key: every step of grant, release, emptying and joining leaves
--- two such again and answers the same, as long as the top is not asked for its size. A step asks for it in two places: step 9, and what a joining yields.
--- Through the steps in their order. Assumes nothing.
+-- Two heaps that are equal but for what they were given when they were opened, the length and the choice of key and edition: every step of grant, release, emptying
+-- and joining leaves two such again and answers the same, as long as the top is not asked for its size. A step asks for it in two places: step 9, and what a joining
+-- yields. Through the steps in their order. Assumes nothing.
 use mathlib.Core.Path.{_≡_, refl, sym, ap, _∙_, subst}
 use mathlib.Core.List.{List, [], _∷_, _++_, append-assoc}
 use mathlib.Core.Bool.{Bool, true, false}
@@ -19,18 +19,21 @@ use Rattle.machine.specs.Release.{absorb, joinNext, putDown, join, drain, drain
 use Rattle.machine.specs.Grant.{roomFor?, step1, moveFast, step2, takeLast, moveLasts, step3, step4, split, sortIn, lone?, splitLone, keep, turnAt, turn, swept, afterTurn, sweep, step5, carve, step8, fit, step6, firstBin, step7, step9, pass, again, from4, seek, grant}
 use Rattle.machine.specs.declared.{Got.Got, Got.the-variants.At, Got.the-variants.Nothing, Turn.Turn}
 use Rattle.machine.specs.declared.Turn.the-variants as T
+use Rattle.history.specs.Histories.{Choice}
 
--- what a heap is given when it is opened, and no step changes: its length and its key
+-- what a heap is given when it is opened, and no step changes: its length, and what was chosen
 pub record Given : Type 0 where
   pub len : ℕ
-  pub key : ℕ
+  pub choice : Choice
 
 abbrev pub given : Heap → Given
-given h = record { len = h .len; key = h .key }
+given h = record { len = h .len; choice = record { key = h .key; edition = h .edition } }
 
 -- the heap with what it was given changed by w
 abbrev pub withGiven : (Given → Given) → Heap → Heap
-withGiven w h = record { len = w (given h) .len; tiles = h .tiles; stacks = h .stacks; bins = h .bins; remainder = h .remainder; key = w (given h) .key }
+withGiven w h =
+    let o : Given = w (given h) in
+    record { len = o .len; tiles = h .tiles; stacks = h .stacks; bins = h .bins; remainder = h .remainder; key = o .choice .key; edition = o .choice .edition }
 
 abbrev pub answer : {A : Type 0} → Ran A → A
 answer (ran h ws a) = a

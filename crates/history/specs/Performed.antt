@@ -8,7 +8,7 @@ use lib.Dec.{eqb}
 use Rattle.machine.specs.Calls.{After, openCall, grantCall, releaseCall, resizeCall, emptyingCall, joiningCall}
 use Rattle.machine.specs.declared.HeapAnswer.{HeapAnswer}
 use Rattle.heap.specs.Exported.{back, numbered}
-use Rattle.history.specs.Histories.{Event, Grant, Release, Resize, Emptying, Joining, Store, Block, drop, State, state, next}
+use Rattle.history.specs.Histories.{Event, Grant, Release, Resize, Emptying, Joining, Store, Block, drop, State, state, next, Choice}
 use Rattle.history.specs.declared.Call.{Call}
 use Rattle.history.specs.declared.Call.the-variants as C
 
@@ -42,9 +42,9 @@ changed C.Joining x bs = bs
 abbrev pub heldAfter : Call → HeapAnswer → List Block → List Block
 heldAfter c x bs = elim (eqb (x .no) 0) [ true ↦ changed c x bs | false ↦ bs ]
 
--- ---- an open of bytes a and r, with the key q, answered x and left s
-pub data Began : List ℕ → List ℕ → ℕ → HeapAnswer → State → Type 0 where
-  began : {a r a′ r′ : List ℕ} {q : ℕ} {x : HeapAnswer} → back a′ r′ x ≡ numbered (openCall a r q) → Began a r q x (state a′ r′ [])
+-- ---- an open of bytes a and r, with the choice q, answered x and left s
+pub data Began : List ℕ → List ℕ → Choice → HeapAnswer → State → Type 0 where
+  began : {a r a′ r′ : List ℕ} {q : Choice} {x : HeapAnswer} → back a′ r′ x ≡ numbered (openCall a r (q .key) (q .edition)) → Began a r q x (state a′ r′ [])
 
 -- ---- from one state to another by these events, with these numbers answered: each call's result meets its promise, and a holder's store is the history's
 pub data Did : State → List Event → List HeapAnswer → State → Type 0 where

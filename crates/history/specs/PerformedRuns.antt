@@ -3,7 +3,7 @@
 use mathlib.Core.Path.{_≡_, refl, sym, ap, _∙_, subst}
 use mathlib.Core.List.{List, [], _∷_}
 use mathlib.Core.Bool.{Bool, true, false}
-use Prim.Native.Nat.{ℕ, _+_, _^_, _<_}
+use Prim.Native.Nat.{ℕ, _+_}
 use native.Mathlib.Omega.{arith}
 use lib.Dec.{eqb}
 use borrow.Author.Tests.{ne-eqb}
@@ -13,7 +13,7 @@ use Rattle.machine.specs.declared.Answer.{Answer}
 use Rattle.calls_consequences.specs.Results.{Lent, arenaLeft, recordLeft}
 use Rattle.calls_consequences.specs.Cases.{grant-cases, release-cases, resize-cases}
 use Rattle.heap.specs.Exported.{Back, back, numbered, numbersBack}
-use Rattle.history.specs.Histories.{Event, Grant, Release, Resize, Emptying, Joining, Store, Block, drop, State, state, granted, released, resized, kept, next, run, answerOf, answerTo, answers, numbers, begin}
+use Rattle.history.specs.Histories.{Event, Grant, Release, Resize, Emptying, Joining, Store, Block, drop, State, state, granted, released, resized, kept, next, run, answerOf, answerTo, answers, numbers, Choice, Allowed, begin}
 use Rattle.history.specs.Performed.{callOf, eventOf, changed, heldAfter, Began, began, Did, none, called, stored}
 use Rattle.history.specs.Demand3.{Zeros}
 use Rattle.history.specs.Ready.{Ready, ReadyAt}
@@ -30,14 +30,14 @@ opened-is : (y : After) → opened-state (numbered y) ≡ kept [] y
 unfolding opened-state
 opened-is (after b q x) = refl
 
-pub began-is : {a r : List ℕ} {q : ℕ} {x : HeapAnswer} {s : State} → Began a r q x s → s ≡ begin a r q
+pub began-is : {a r : List ℕ} {q : Choice} {x : HeapAnswer} {s : State} → Began a r q x s → s ≡ begin a r q
 unfolding opened-state begin
-began-is {a} {r} {q} (began e) = ap opened-state e ∙ opened-is (openCall a r q)
+began-is {a} {r} {q} (began e) = ap opened-state e ∙ opened-is (openCall a r (q .key) (q .edition))
 
-pub began-zeros : {a r : List ℕ} {q : ℕ} {x : HeapAnswer} {s : State} → Lent a r → Began a r q x s → Zeros x
-began-zeros {a} {r} {q} L (began e) = ap numbersBack e ∙ ap (λ (y : After). numbersBack (numbered y)) (open-lent a r q L)
+pub began-zeros : {a r : List ℕ} {q : Choice} {x : HeapAnswer} {s : State} → Lent a r → Allowed q → Began a r q x s → Zeros x
+began-zeros {a} {r} {q} L k (began e) = ap numbersBack e ∙ ap (λ (y : After). numbersBack (numbered y)) (open-lent a r q L k)
 
-pub began-ready : {a r : List ℕ} {q : ℕ} {x : HeapAnswer} {s : State} → Lent a r → q < 2 ^ 64 → Began a r q x s → ReadyAt s
+pub began-ready : {a r : List ℕ} {q : Choice} {x : HeapAnswer} {s : State} → Lent a r → Allowed q → Began a r q x s → ReadyAt s
 began-ready {a} {r} {q} L k B = subst ReadyAt (sym (began-is B)) (begin-ready a r q L k)
 
 -- ---- a call: what a caller holds after it
@@ -127,9 +127,9 @@ did-numbers R (called c a r b q bs x {es} e d) =
 did-numbers R (stored p v s {es} d) = numbers-stored p v s es ∙ did-numbers (next-ready (Store p v) s R) d
 
 -- ---- and every run can be performed, from its open on
-pub begin-began : (a r : List ℕ) (q : ℕ) → Began a r q (answerNumbers (answerOf (openCall a r q))) (begin a r q)
+pub begin-began : (a r : List ℕ) (q : Choice) → Began a r q (answerNumbers (answerOf (openCall a r (q .key) (q .edition)))) (begin a r q)
 begin-began a r q =
-    let y : After = openCall a r q in
+    let y : After = openCall a r (q .key) (q .edition) in
     let B : Began a r q (answerNumbers (answerOf y)) (state (arenaLeft y) (recordLeft y) []) = began (result-is y) in
     subst (Began a r q (answerNumbers (answerOf y))) (began-is B) B
 

@@ -4,7 +4,7 @@ use mathlib.Core.Path.{_≡_, refl, sym, ap, _∙_, subst}
 use mathlib.Core.List.{List, [], _∷_}
 use mathlib.Core.Bool.{Bool, true, false}
 use mathlib.Core.Logic.{⊎-elim}
-use Prim.Native.Nat.{ℕ, _+_, _-_, _%_, _^_, _≤_, _<_}
+use Prim.Native.Nat.{ℕ, _+_, _-_, _%_, _≤_}
 use native.Mathlib.Omega.{arith}
 use lib.Dec.{eqb, leb}
 use lib.ListN.{length, set}
@@ -35,7 +35,8 @@ use Rattle.sound.specs.Resize.{nowAt, Resized, standing, resize-resized}
 use Rattle.sound.specs.Live.{live-loose}
 use Rattle.sound.specs.Ends.{Ends}
 use Rattle.sound.specs.Opened.{opened-ends}
-use Rattle.history.specs.Histories.{Event, Grant, Release, Resize, Emptying, Joining, Store, Block, holds?, drop, State, state, granted, released, resized, kept, next, run, begin}
+use Rattle.audit.specs.Spelled.{edition-out}
+use Rattle.history.specs.Histories.{Event, Grant, Release, Resize, Emptying, Joining, Store, Block, holds?, drop, State, state, granted, released, resized, kept, next, run, Choice, Allowed, begin}
 use Rattle.calls_consequences.specs.Results.{Lent}
 use Rattle.calls_consequences.specs.Cases.{release-cases}
 use Rattle.calls_consequences.specs.Consequences.{Job, emptying-job, joining-job}
@@ -45,13 +46,19 @@ use Rattle.history.specs.Called.{open-lent, grant-large, grant-called, r
 use Rattle.history.specs.Stores.{store-ready}
 
 -- ---- open
-pub begin-ready : (a r : List ℕ) (q : ℕ) → Lent a r → q < 2 ^ 64 → ReadyAt (begin a r q)
+pub begun : (a r : List ℕ) (q : Choice) → Lent a r → Allowed q
+    → Good (opened (length a) (q .key) (q .edition)) × Mem (opened (length a) (q .key) (q .edition)) (apply (size 0 (length a) 1 ∷ []) (arenaWords a))
+begun a r q L k =
+    opened-ends (length a) (q .key) (q .edition) (arenaWords a) (k .key) (edition-out (q .edition) (k .edition)) (L .even) (L .least) (L .most)
+    (omega (arith, length-arenaWords a, L .even))
+
+pub begin-ready : (a r : List ℕ) (q : Choice) → Lent a r → Allowed q → ReadyAt (begin a r q)
 unfolding begin
 begin-ready a r q L k =
     let n : ℕ = length a in
-    let o = opened-ends n q (arenaWords a) k (L .even) (L .least) (L .most) (omega (arith, length-arenaWords a, L .even)) in
-    subst (λ (x : C.After). ReadyAt (kept [] x)) (sym (open-lent a r q L))
-    (left-ready a r L (opened n q) (size 0 n 1 ∷ []) [] (record { good = o .0; low = omega arith }) (o .1)
+    let o = begun a r q L k in
+    subst (λ (x : C.After). ReadyAt (kept [] x)) (sym (open-lent a r q L k))
+    (left-ready a r L (opened n (q .key) (q .edition)) (size 0 n 1 ∷ []) [] (record { good = o .0; low = omega arith }) (o .1)
     (record { low = λ m l. refl; count = λ c. omega (arith, o .0 .shape .own c); sizes = tt }))
 
 -- ---- the steps

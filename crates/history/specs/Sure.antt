@@ -4,7 +4,7 @@ use mathlib.Core.Path.{_≡_, refl, sym, ap, _∙_, subst}
 use mathlib.Core.List.{List, [], _∷_, _++_, map}
 use mathlib.Core.Bool.{Bool, true, false}
 use mathlib.Core.Logic.{⊎-elim}
-use Prim.Native.Nat.{ℕ, _+_, _-_, _^_, _≤_, _<_}
+use Prim.Native.Nat.{ℕ, _+_, _-_, _≤_}
 use native.Mathlib.Omega.{arith}
 use lib.Dec.{eqb, leb, ltb}
 use borrow.Author.Tests.{lt-ltb, ne-eqb, leb-true, leb-false}
@@ -24,7 +24,7 @@ use Rattle.machine.specs.declared.Refusal.the-variants as N
 use Rattle.sound.specs.Tiles.{lt-or-le, zero-or}
 use Rattle.sound.specs.Live.{loose-live}
 use Rattle.audit.specs.Exact.{audit-complete}
-use Rattle.history.specs.Histories.{Event, Grant, Release, Resize, Emptying, Joining, Store, Block, State, state, answerOf, answerTo, answers, numbers, next, run, begin}
+use Rattle.history.specs.Histories.{Event, Grant, Release, Resize, Emptying, Joining, Store, Block, State, state, answerOf, answerTo, answers, numbers, next, run, Choice, Allowed, begin}
 use Rattle.calls.specs.Ways.{audit-good}
 use Rattle.calls_consequences.specs.Results.{Lent}
 use Rattle.calls_consequences.specs.Left.{lent-shape}
@@ -62,7 +62,7 @@ ready-live (state a r bs) R = λ c. ⊎-elim
     (λ z. loose-live (C.heapIn a r) c (R .sound .good .shape) (omega (arith, R .holds .count c)) ∙ sym (held-some bs (c + 16) z))
     (zero-or (heldAt (c + 16) bs))
 
-pub run-live : (a r : List ℕ) (q : ℕ) → Lent a r → q < 2 ^ 64 → (es : List Event) → LiveAt (run es (begin a r q))
+pub run-live : (a r : List ℕ) (q : Choice) → Lent a r → Allowed q → (es : List Event) → LiveAt (run es (begin a r q))
 run-live a r q L k es = ready-live (run es (begin a r q)) (run-ready es (begin a r q) (begin-ready a r q L k))
 
 -- ---- an audit finds no fault
@@ -191,5 +191,5 @@ unfolding numbers
 ready-fair es s R = answers-fair es s R
 
 -- ---- in every run
-pub run-fair : (a r : List ℕ) (q : ℕ) → Lent a r → q < 2 ^ 64 → (es : List Event) → AllFair (numbers es (begin a r q))
+pub run-fair : (a r : List ℕ) (q : Choice) → Lent a r → Allowed q → (es : List Event) → AllFair (numbers es (begin a r q))
 run-fair a r q L k es = ready-fair es (begin a r q) (begin-ready a r q L k)

@@ -2,20 +2,20 @@
 -- (PerformedRuns), and the files before have each part of runs. Assumes nothing.
 use mathlib.Core.Path.{_≡_, sym, ap, _∙_, subst}
 use mathlib.Core.List.{List, [], _∷_, _++_}
-use Prim.Native.Nat.{ℕ, _^_, _<_}
+use Prim.Native.Nat.{ℕ}
 use lib.ListN.{length}
 use Rattle.machine.specs.declared.HeapAnswer.{HeapAnswer}
 use Rattle.calls_consequences.specs.Results.{Lent}
-use Rattle.history.specs.Histories.{Event, Emptying, Joining, State, blocksIn, run, numbers, begin}
+use Rattle.history.specs.Histories.{Event, Emptying, Joining, State, blocksIn, run, numbers, Choice, Allowed, begin}
 use Rattle.history.specs.Performed.{Began, Did}
 use Rattle.history.specs.Demand3.{AllFair, LiveAt, MendedAt, Quiet, New, Demand}
 use Rattle.history.specs.Ready.{ReadyAt}
 use Rattle.history.specs.Runs.{run-ready}
 use Rattle.history.specs.Sure.{ready-audits, ready-fair, run-fair, run-live, emptying-numbers, joining-numbers}
 use Rattle.history.specs.Calm.{run-append, thenJoined, run-mended}
-use Rattle.history.specs.Agrees.{butKey, AgreesPerformed}
-use Rattle.history.specs.Alike.{Alike, ButKey, Any, butkey-steady, any-always}
-use Rattle.history.specs.RecordBytes.{records-key}
+use Rattle.history.specs.Agrees.{butChoice, AgreesPerformed}
+use Rattle.history.specs.Alike.{Alike, ButChoice, Any, butchoice-steady, any-always}
+use Rattle.history.specs.RecordBytes.{records-choice}
 use Rattle.history.specs.AgreesHold.{alike-performed}
 use Rattle.history.specs.Emptied.{emptied-alike}
 use Rattle.history.specs.PerformedRuns.{began-is, began-zeros, began-ready, did-run, did-numbers}
@@ -24,7 +24,7 @@ abbrev head-of : HeapAnswer → List HeapAnswer → HeapAnswer
 head-of y [] = y
 head-of y (x ∷ xs) = x
 
-module _ (a r : List ℕ) (q : ℕ) (x : HeapAnswer) (s : State) (L : Lent a r) (k : q < 2 ^ 64) (B : Began a r q x s) (es : List Event) (xs : List HeapAnswer) (t : State) (D : Did s es xs t)
+module _ (a r : List ℕ) (q : Choice) (x : HeapAnswer) (s : State) (L : Lent a r) (k : Allowed q) (B : Began a r q x s) (es : List Event) (xs : List HeapAnswer) (t : State) (D : Did s es xs t)
     (y : HeapAnswer) (u : State) (E : Did t (Emptying ∷ []) (y ∷ []) u) (fs : List Event) (Q : Quiet fs) (ys : List HeapAnswer) (v : State) (F : Did u fs ys v)
     (z : HeapAnswer) (w : State) (J : Did v (Joining ∷ []) (z ∷ []) w) where
   ready : ReadyAt s
@@ -60,12 +60,12 @@ module _ (a r : List ℕ) (q : ℕ) (x : HeapAnswer) (s : State) (L : Lent a r) 
   empty : blocksIn w ≡ [] → blocksIn (run (thenJoined es fs) (begin a r q)) ≡ []
   empty e = ap blocksIn joined ∙ e
 
-  agrees : blocksIn w ≡ [] → (b c : List ℕ) (p : ℕ) (i : HeapAnswer) (o : State) → Lent b c → p < 2 ^ 64 → length b ≡ length a → Began b c p i o
-      → (gs : List Event) (xs ys : List HeapAnswer) (t u : State) → Did w gs xs t → Did o gs ys u → AgreesPerformed butKey gs w xs ys t u
+  agrees : blocksIn w ≡ [] → (b c : List ℕ) (p : Choice) (i : HeapAnswer) (o : State) → Lent b c → Allowed p → length b ≡ length a → Began b c p i o
+      → (gs : List Event) (xs ys : List HeapAnswer) (t u : State) → Did w gs xs t → Did o gs ys u → AgreesPerformed butChoice gs w xs ys t u
   agrees e b c p i o M l n O gs xs ys t u G H =
-      alike-performed (ButKey p) Any (butkey-steady p) butKey (records-key p) gs w o (any-always gs w o)
-      (subst (λ (z : State). Alike (ButKey p) z o) joined
-      (subst (λ (z : State). Alike (ButKey p) (run (thenJoined es fs) (begin a r q)) z) (sym (began-is O)) (emptied-alike a r q L k es fs Q (empty e) b c p M l n)))
+      alike-performed (ButChoice p) Any (butchoice-steady p) butChoice (records-choice p) gs w o (any-always gs w o)
+      (subst (λ (z : State). Alike (ButChoice p) z o) joined
+      (subst (λ (z : State). Alike (ButChoice p) (run (thenJoined es fs) (begin a r q)) z) (sym (began-is O)) (emptied-alike a r q L k es fs Q (empty e) b c p M l n)))
       ready-w (began-ready M l O) xs ys t u G H
 
   new : blocksIn w ≡ [] → New (length a) w
@@ -76,7 +76,7 @@ module _ (a r : List ℕ) (q : ℕ) (x : HeapAnswer) (s : State) (L : Lent a r) 
 
   demand : Demand (length a) x xs t y ys v z w
   demand = record {
-    opens = began-zeros L B;
+    opens = began-zeros L k B;
     fair = subst AllFair (ap (numbers es) (sym (began-is B)) ∙ did-numbers ready D) (run-fair a r q L k es);
     audits = ready-audits t ready-t;
     live = subst LiveAt came (run-live a r q L k es);
@@ -88,8 +88,9 @@ module _ (a r : List ℕ) (q : ℕ) (x : HeapAnswer) (s : State) (L : Lent a r) 
     emptied = new;
   }
 
--- ---- the theorem: an open of lent bytes with any key, any events performed, and then an emptying and, with no grant, release or resize between, a joining
-pub demand3 : (a r : List ℕ) (q : ℕ) (x : HeapAnswer) (s : State) → Lent a r → q < 2 ^ 64 → Began a r q x s → (es : List Event) (xs : List HeapAnswer) (t : State) → Did s es xs t
+-- ---- the theorem: an open of lent bytes with any key and in either edition, any events performed, and then an emptying and, with no grant, release or resize
+-- between, a joining
+pub demand3 : (a r : List ℕ) (q : Choice) (x : HeapAnswer) (s : State) → Lent a r → Allowed q → Began a r q x s → (es : List Event) (xs : List HeapAnswer) (t : State) → Did s es xs t
     → (y : HeapAnswer) (u : State) → Did t (Emptying ∷ []) (y ∷ []) u → (fs : List Event) → Quiet fs → (ys : List HeapAnswer) (v : State) → Did u fs ys v
     → (z : HeapAnswer) (w : State) → Did v (Joining ∷ []) (z ∷ []) w → Demand (length a) x xs t y ys v z w
 demand3 a r q x s L k B es xs t D y u E fs Q ys v F z w J = demand a r q x s L k B es xs t D y u E fs Q ys v F z w J

@@ -3,7 +3,7 @@
 use mathlib.Core.Path.{_≡_, refl, sym, ap, _∙_}
 use mathlib.Core.List.{List, [], _∷_, _++_}
 use mathlib.Core.Bool.{Bool, true, false, not}
-use Prim.Native.Nat.{ℕ, zero, suc, _-_, _%_, _≤_, _<_}
+use Prim.Native.Nat.{ℕ, zero, suc, _+_, _-_, _%_, _≤_, _<_}
 use native.Mathlib.Omega.{arith}
 use lib.Dec.{ltb, leb}
 use lib.ListN.{length, getD, replicate, length-replicate}
@@ -20,7 +20,7 @@ use Rattle.machine.specs.declared.Answer.the-variants.{Done, Granted, Refused}
 use Rattle.machine.specs.declared.Refusal.the-variants as N
 use Rattle.machine.proofs.Script as X
 use Rattle.calls_consequences.specs.Results.{Lent}
-use Rattle.history.specs.Histories.{Event, Grant, Release, Resize, Emptying, Joining, Store, State, heapAt, arenaIn, next, run, answers, begin}
+use Rattle.history.specs.Histories.{Event, Grant, Release, Resize, Emptying, Joining, Store, State, heapAt, arenaIn, next, run, answers, Choice, begin}
 use Rattle.history.specs.Alike.{said, Always}
 use Rattle.history.specs.Like.{given, withGiven, answer, upTo9, short?, FewIn, FewFrom, Few}
 use Rattle.history.specs.Agrees.{written, butGiven, Agrees}
@@ -106,15 +106,19 @@ all-below x l zero i = omega arith
 all-below x l (suc n) zero = l
 all-below x l (suc n) (suc i) = all-below x l n i
 
-lent : (n x : ℕ) → n % 16 ≡ 0 → 32 ≤ n → n ≤ 262144 → x < 256 → Lent (replicate n x) (replicate 1580 x)
+pub lent : (n x : ℕ) → n % 16 ≡ 0 → 32 ≤ n → n ≤ 262144 → x < 256 → Lent (replicate n x) (replicate 1584 x)
 lent n x e l m b =
     let k : length (replicate n x) ≡ n = length-replicate n x in
-    record { even = rw k e; least = omega arith; most = omega arith; long = refl; bytes = all-below x b n; words = all-below x b 1580 }
+    record { even = rw k e; least = omega arith; most = omega arith; long = refl; bytes = all-below x b n; words = all-below x b 1584 }
 
--- newly opened, with the key x; every step of a run from there unfolds with it
+-- the key x, in edition 1 if x is even, else in edition 2
+abbrev pub choiceOf : ℕ → Choice
+choiceOf x = record { key = x; edition = 1 + x % 2 }
+
+-- newly opened with this choice; every step of a run from there unfolds with it
 unfoldable pub over : ℕ → ℕ → State
 unfolding upTo9 next begin L.numberFrom L.number L.words L.digits L.bytes B.arenaWords S.need S.usable S.cacheOf S.fastOf S.largeBin S.binOf H.recordOf W.listAt W.tilesOf W.stacksOf W.binsOf U.tileFault U.goodFrom U.listFault U.flagFault U.auditBy C.openCall C.grantCall C.releaseCall C.jobCall C.closedRecord E.absorb E.joinNext E.putDown E.join E.releasePast E.release E.drain E.drains E.consolidate E.emptying E.joining G.step1 G.moveFast G.step2 G.takeLast G.moveLasts G.step3 G.step4 G.split G.sortIn G.splitLone G.keep G.turnAt G.turn G.swept G.sweep G.step5 G.carve G.step8 G.step6 G.step7 G.step9 G.pass G.again G.from4 G.seek G.grant
-over n x = begin (replicate n x) (replicate 1580 x) x
+over n x = begin (replicate n x) (replicate 1584 x) (choiceOf x)
 
 -- ---- 256 bytes of 0 and 384 of 1. A double release is refused; in the emptying a block is joined to the top, which yields 176 bytes in the one and 304 in the
 -- other, and the joining joins the one released before it
@@ -128,8 +132,9 @@ sample-meets = always sample (over 256 0) (over 384 1) refl
 pub sample-agrees : Agrees butGiven sample (over 256 0) (over 384 1)
 unfolding over
 sample-agrees =
-    bigger-agrees (replicate 256 0) (replicate 1580 0) (replicate 384 1) (replicate 1580 1) 0 1 (lent 256 0 refl (omega arith) (omega arith) (omega arith))
-    (lent 384 1 refl (omega arith) (omega arith) (omega arith)) (omega arith) (omega arith) (omega arith) sample sample-meets
+    bigger-agrees (replicate 256 0) (replicate 1584 0) (replicate 384 1) (replicate 1584 1) (choiceOf 0) (choiceOf 1) (lent 256 0 refl (omega arith) (omega arith) (omega arith))
+    (lent 384 1 refl (omega arith) (omega arith) (omega arith))
+    (record { key = omega arith; edition = refl }) (record { key = omega arith; edition = refl }) (omega arith) sample sample-meets
 
 pub sample-smaller :
     answers sample (over 256 0) ≡ Granted 16 24 ∷ Granted 48 40 ∷ Granted 96 136 ∷ Done ∷ Refused N.NotLive ∷ Done ∷ Done ∷ Done ∷ Granted 48 104 ∷ []
@@ -152,8 +157,9 @@ exact-meets = always exact (over 128 255) (over 272 0) refl
 pub exact-agrees : Agrees butGiven exact (over 128 255) (over 272 0)
 unfolding over
 exact-agrees =
-    bigger-agrees (replicate 128 255) (replicate 1580 255) (replicate 272 0) (replicate 1580 0) 255 0 (lent 128 255 refl (omega arith) (omega arith) (omega arith))
-    (lent 272 0 refl (omega arith) (omega arith) (omega arith)) (omega arith) (omega arith) (omega arith) exact exact-meets
+    bigger-agrees (replicate 128 255) (replicate 1584 255) (replicate 272 0) (replicate 1584 0) (choiceOf 255) (choiceOf 0) (lent 128 255 refl (omega arith) (omega arith) (omega arith))
+    (lent 272 0 refl (omega arith) (omega arith) (omega arith))
+    (record { key = omega arith; edition = refl }) (record { key = omega arith; edition = refl }) (omega arith) exact exact-meets
 
 pub exact-smaller : answers exact (over 128 255) ≡ Granted 16 24 ∷ Granted 48 56 ∷ Refused N.Request ∷ Done ∷ Done ∷ Done ∷ Done ∷ Granted 48 56 ∷ []
 unfolding exact over answers

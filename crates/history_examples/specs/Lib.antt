@@ -1,3 +1,3 @@
 pub mod Histories
 pub mod Bigger
-pub mod Keys
+pub mod Editions

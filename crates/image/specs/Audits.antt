@@ -9,8 +9,8 @@ use Rattle.sizes.specs.Layout.{lengthWord, topWord}
 use Rattle.sizes.specs.Limits.{none64}
 use Rattle.machine.specs.Lists.{both, minus}
 use Rattle.machine.specs.Heap.{Tile, starts, endFrom, binned}
-use Rattle.machine.specs.View.{sizeAt, tileAt, kindAt, view}
-use Rattle.machine.specs.Audit.{sound?, first, recordFault, tileOk, tileFault, goodFrom, skipsOk, listFault, flagOk, flagFault, lists, auditBy}
+use Rattle.machine.specs.View.{sizeAt, tileAt, kindAt, editionIn, view}
+use Rattle.machine.specs.Audit.{sound?, first, edition?, recordFault, tileOk, tileFault, goodFrom, skipsOk, listFault, flagOk, flagFault, lists, auditBy}
 use Rattle.machine.specs.Calls.{faultNumbers}
 use Rattle.machine.specs.declared.{Audited.Audited, ListKind.ListKind}
 use Rattle.machine.specs.declared.ListKind.the-variants.{Cache, Fast, Bin}
@@ -53,7 +53,7 @@ pub zero-audit : (v : ℕ) (w r : List ℕ) → Zero (auditBy v w r)
 unfolding auditBy
 zero-audit v w r =
     let h = view w r in
-    zero-first (recordFault w r) _ (zero-if (eqb (getD r lengthWord 0) (8 * length w)) A.Sound A.Record refl refl)
+    zero-first (recordFault w r) _ (zero-if (both (eqb (getD r lengthWord 0) (8 * length w)) (edition? (editionIn r))) A.Sound A.Record refl refl)
     (zero-first (tileFault w (getD r topWord 0) 0 (h .tiles)) _ (zero-tiles w (getD r topWord 0) 0 (h .tiles))
     (zero-first (listFault v w r 0 (starts h) (lists h)) _ (zero-lists v w r 0 (starts h) (lists h))
     (zero-flags (binned h) (tileAt w (endFrom 0 (h .tiles))) 0 0 0 (h .tiles))))

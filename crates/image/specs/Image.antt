@@ -6,7 +6,7 @@ use lib.Dec.{eqb, ltb, leb}
 use lib.ListN.{length, getD, take, drop, replicate}
 use Rattle.le.specs.Number.{number, digits, bytes}
 use Rattle.le.specs.Arena.{arenaWords}
-use Rattle.sizes.specs.Limits.{recordBytes, newest}
+use Rattle.sizes.specs.Limits.{recordBytes, newest, plain}
 use Rattle.machine.specs.Lists.{both}
 use Rattle.machine.specs.Heap.{Heap}
 use Rattle.machine.specs.Writes.{Write, apply}
@@ -24,13 +24,13 @@ use Rattle.image.specs.declared.Reading.the-variants.{NoMark, NoVersion,
 abbrev pub mark : List ℕ
 mark = 72 ∷ 80 ∷ 73 ∷ []
 
--- version 1 has a record of 1,572 bytes, without a key, and no keys in the cache; versions 1 and 2 have no skip links in the bins; version 3, the newest,
--- is the heap as it is
+-- version 1 has a record of 1,572 bytes, without a key, and no keys in the cache; versions 1 and 2 have no skip links in the bins; versions 2 and 3 have a record
+-- of 1,580 bytes, without an edition; version 4, the newest, is the heap as it is
 abbrev pub known? : ℕ → Bool
 known? v = both (leb 1 v) (leb v newest)
 
 abbrev pub recordBytesBy : ℕ → ℕ
-recordBytesBy v = elim (ltb v 2) [ true ↦ 1572 | false ↦ recordBytes ]
+recordBytesBy v = elim (ltb v 2) [ true ↦ 1572 | false ↦ elim (ltb v 4) [ true ↦ 1580 | false ↦ recordBytes ] ]
 
 -- a writing writes the newest
 unfoldable pub image : List ℕ → List ℕ → List ℕ
@@ -67,9 +67,12 @@ versionIn f = number 2 f versionAt
 abbrev pub lengthIn : List ℕ → ℕ
 lengthIn f = number 4 f lengthAt
 
--- an older record is completed with zeros: key 0
+-- an older record is completed with key 0 and edition 1, what a record of 1,572 bytes lacks
+abbrev pub lackedRecord : List ℕ
+lackedRecord = replicate 8 0 ++ digits 4 plain
+
 abbrev pub recordIn : List ℕ → List ℕ
-recordIn f = take (recordBytesBy (versionIn f)) (drop recordAt f) ++ replicate (recordBytes - recordBytesBy (versionIn f)) 0
+recordIn f = take (recordBytesBy (versionIn f)) (drop recordAt f) ++ drop (recordBytesBy (versionIn f) - 1572) lackedRecord
 
 abbrev pub arenaIn : List ℕ → List ℕ
 arenaIn f = drop (recordAt + recordBytesBy (versionIn f)) f
@@ -82,8 +85,11 @@ fits? f a r = both (arenaAllowed? (lengthIn f)) (both (eqb (length f) (imageByte
 abbrev pub lackedKeys : ℕ → Heap → List Write
 lackedKeys v h = elim (ltb v 2) [ true ↦ keysOf h | false ↦ [] ]
 
+abbrev pub lackedSkips : ℕ → Heap → List Write
+lackedSkips v h = elim (ltb v 3) [ true ↦ skipsOf h | false ↦ [] ]
+
 abbrev pub lacked : ℕ → Heap → List Write
-lacked v h = lackedKeys v h ++ skipsOf h
+lacked v h = lackedKeys v h ++ lackedSkips v h
 
 abbrev pub completed : ℕ → Heap → List ℕ → List ℕ
 completed v h a = bytes 8 (apply (lacked v h) (arenaWords a))

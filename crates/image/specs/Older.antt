@@ -1,18 +1,19 @@
--- What a reading makes of an older image: its answer is the audit, by the rules of the file's version, of what it left; a heap of version 1 or 2 that is sound by
--- those rules is the same heap after it, one of version 1 with key 0, and sound by the newest; an unsound one is left as it stands in the file. Assumes nothing.
+-- What a reading makes of an older image: its answer is the audit, by the rules of the file's version, of what it left; a heap of version 1, 2 or 3 that is sound
+-- by those rules is the same heap after it, with edition 1, one of version 1 with key 0, and sound by the newest; an unsound one is left as it stands in the
+-- file. Assumes nothing.
 use mathlib.Core.Path.{_≡_, refl, sym, ap, _∙_, subst}
 use mathlib.Core.Bool.{Bool, true, false}
 use mathlib.Core.List.{List, [], _∷_, _++_}
 use mathlib.Core.Logic.{_⊎_, inl, inr, ⊎-elim}
-use Prim.Native.Nat.{ℕ, zero, suc, _+_, _-_, _≤_, _<_}
+use Prim.Native.Nat.{ℕ, zero, suc, _+_, _-_, _/_, _≤_, _<_}
 use native.Mathlib.Omega.{arith}
 use lib.ListN.{getD, take, drop, replicate}
 use lib.Seq.{getD-drop}
-use Rattle.le.specs.Number.{bytes}
+use Rattle.le.specs.Number.{digits, bytes}
 use Rattle.le.specs.WordsLaws.{length-words}
 use Rattle.le.specs.Arena.{arenaWords}
 use Rattle.le.specs.ArenaLaws.{bytes-arenaWords}
-use Rattle.sizes.specs.Limits.{recordBytes, newest}
+use Rattle.sizes.specs.Limits.{newest, plain}
 use Rattle.machine.specs.Heap.{Heap}
 use Rattle.machine.specs.Writes.{apply}
 use Rattle.machine.specs.Audit.{sound?, auditBy}
@@ -28,9 +29,9 @@ use Rattle.calls.specs.Through.{Came, came-arena, words-small}
 use Rattle.calls_consequences.specs.Bytes.{arenaWords-cut}
 use Rattle.calls_consequences.specs.Written.{mem-cut}
 use Rattle.image.specs.declared.Reading.the-variants.{Read}
-use Rattle.image.specs.Image.{known?, recordBytesBy, versionIn, recordIn, arenaIn, lacked, completed, afterReading, heapRead, readCall}
+use Rattle.image.specs.Image.{known?, recordBytesBy, versionIn, lackedRecord, recordIn, arenaIn, lacked, completed, afterReading, heapRead, readCall}
 use Rattle.image.specs.Ways.{known-true, heap-new, heap-unsound, heap-completed, parts-long}
-use Rattle.image.specs.Completed.{Old, lacked-sound}
+use Rattle.image.specs.Completed.{Old, by-rules, lacked-sound}
 use Rattle.image.specs.Parts.{TakenFrom, taken, taken-shape}
 
 -- ---- bytes of a file are bytes in its parts
@@ -56,16 +57,23 @@ small-zeros zero i = omega arith
 small-zeros (suc n) zero = omega arith
 small-zeros (suc n) (suc i) = small-zeros n i
 
+small-digits : (n v : ℕ) → Small (digits n v)
+unfolding digits
+small-digits zero v i = omega arith
+small-digits (suc n) v zero = omega arith
+small-digits (suc n) v (suc i) = small-digits n (v / 256) i
+
 record-small : (f : List ℕ) → Small f → Small (recordIn f)
-record-small f s = small-append (take (recordBytesBy (versionIn f)) (drop 9 f)) (replicate (recordBytes - recordBytesBy (versionIn f)) 0)
-    (small-take (recordBytesBy (versionIn f)) (drop 9 f) (small-drop 9 f s)) (small-zeros (recordBytes - recordBytesBy (versionIn f)))
+record-small f s = small-append (take (recordBytesBy (versionIn f)) (drop 9 f)) (drop (recordBytesBy (versionIn f) - 1572) lackedRecord)
+    (small-take (recordBytesBy (versionIn f)) (drop 9 f) (small-drop 9 f s))
+    (small-drop (recordBytesBy (versionIn f) - 1572) lackedRecord (small-append (replicate 8 0) (digits 4 plain) (small-zeros 8) (small-digits 4 plain)))
 
 -- ---- arena a and record r of version v, sound by its rules: with what it lacks the heap is sound by the newest
 module _ (v : ℕ) (a r : List ℕ) where
   old-sound : shape? a r ≡ true → Small r → auditBy v (arenaWords a) (wordsOf r) ≡ A.Sound → SoundBy v (heapIn a r) (arenaWords a) (wordsOf r)
   old-sound s small e =
       let c : Came a r (wordsOf r) = record { shape = s; small = small; words = refl } in
-      audit-sound-by v (arenaWords a) (wordsOf r) (arena-words a (came-arena a r (wordsOf r) c)) (length-words 4 395 r) (words-small r small) e
+      audit-sound-by v (arenaWords a) (wordsOf r) (arena-words a (came-arena a r (wordsOf r) c)) (length-words 4 396 r) (words-small r small) e
 
   completed-left : 1 ≤ v → v < newest → shape? a r ≡ true → Small r → auditBy v (arenaWords a) (wordsOf r) ≡ A.Sound
       → Sound (heapIn a r) (arenaWords (completed v (heapIn a r) a)) (wordsOf r)
@@ -100,22 +108,6 @@ module _ (v : ℕ) (a r q : List ℕ) (x : Audited) (eq : q ≡ wordsOf r) (ex :
         ap (λ (b : List ℕ). afterReading b r (Read x)) (sym (bytes-arenaWords b (o .even) (o .small)) ∙ ap (bytes 8) (k (heapIn a r) was-sound))
         ∙ ap (λ (x : Audited). afterReading (completed v (heapIn a r) a) r (Read x)) by-record ∙ heap-completed v a r old (ap sound? (sym by-record) ∙ e)
 
--- what is sound by the newest rules is sound by those of any version
-older : (v : ℕ) {h : Heap} {w r : List ℕ} → Sound h w r → SoundBy v h w r
-older v s = record {
-  good = s .good;
-  mem = record {
-    long = s .mem .long;
-    words = s .mem .words;
-    chains = s .mem .chains;
-    blinks = s .mem .blinks;
-    keys = λ z. s .mem .keys (omega arith);
-    key64 = s .mem .key64;
-    skipped = λ z. s .mem .skipped (omega arith);
-  };
-  rec = s .rec;
-}
-
 module _ (f a r b q : List ℕ) (x : Audited) (small : Small f) (e : readCall f a r ≡ afterReading b q (Read x)) where
   T : TakenFrom f a r b q x
   T = taken f a r b q x e
@@ -138,7 +130,7 @@ module _ (f a r b q : List ℕ) (x : Audited) (small : Small f) (e : readCall f 
     )
 
     old-audits : x ≡ auditBy (versionIn f) (arenaWords b) (wordsOf q)
-    old-audits = is-sound x s ∙ sym (audit-complete-by (versionIn f) before (arenaWords b) (wordsOf q) (older (versionIn f) left-sound))
+    old-audits = is-sound x s ∙ sym (audit-complete-by (versionIn f) before (arenaWords b) (wordsOf q) (by-rules (λ z. omega arith) (λ z. omega arith) left-sound))
 
   -- ---- unsound by the rules of its version it is as it stands in the file
   pub read-unsound-as-it-is : sound? x ≡ false → (b ≡ arenaIn f) × (q ≡ recordIn f)

@@ -7,7 +7,7 @@ use Prim.Native.Nat.{ℕ, zero, suc, _+_, _-_, _*_, _/_, _%_, _≤_, _<_}
 use native.Mathlib.Nat.{add-suc, add-zero}
 use native.Mathlib.Omega.{arith}
 use lib.Dec.{eqb, leb}
-use lib.ListN.{length, getD, take, drop, replicate, take-append-drop}
+use lib.ListN.{length, getD, take, drop, take-append-drop}
 use lib.Seq.{drop-cons, drop-drop, take-at, drop-at}
 use borrow.Author.Tests.{eqb-true, le-leb}
 use Rattle.le.specs.Number.{numberFrom, number, digits}
@@ -23,14 +23,15 @@ use Rattle.sound.specs.Tiles.{lt-or-le}
 use Rattle.sound.specs.Frames.{apply-length}
 use Rattle.calls.specs.Ways.{allowed-true, shape-true, shape-allowed}
 use Rattle.image.specs.declared.Reading.the-variants.{Read}
-use Rattle.image.specs.Image.{known?, recordBytesBy, image, lengthAt, recordAt, imageBytes, marked?, versionIn, lengthIn, recordIn, arenaIn, lacked, completed, afterReading, readCall}
+use Rattle.image.specs.Image.{known?, recordBytesBy, image, lengthAt, recordAt, imageBytes, marked?, versionIn, lengthIn, lackedRecord, recordIn, arenaIn, lacked, completed, afterReading, readCall}
 use Rattle.image.specs.Ways.{clash, never, both-yes, Fits, marked-long, fits-true, parts-long, heap-cases, read-cases}
 
 -- ---- of a file of the newest version
-pub record-new : (f : List ℕ) → versionIn f ≡ newest → recordIn f ≡ take 1580 (drop 9 f)
-record-new f v = ap (λ (n : ℕ). take (recordBytesBy n) (drop recordAt f) ++ replicate (recordBytes - recordBytesBy n) 0) v ∙ append-nil (take 1580 (drop 9 f))
+pub record-new : (f : List ℕ) → versionIn f ≡ newest → recordIn f ≡ take 1584 (drop 9 f)
+unfolding digits
+record-new f v = ap (λ (n : ℕ). take (recordBytesBy n) (drop recordAt f) ++ drop (recordBytesBy n - 1572) lackedRecord) v ∙ append-nil (take 1584 (drop 9 f))
 
-pub arena-new : (f : List ℕ) → versionIn f ≡ newest → arenaIn f ≡ drop 1589 f
+pub arena-new : (f : List ℕ) → versionIn f ≡ newest → arenaIn f ≡ drop 1593 f
 arena-new f v = ap (λ (n : ℕ). drop (recordAt + recordBytesBy n) f) v
 
 -- ---- of an image
@@ -87,9 +88,9 @@ marked-starts f e =
 pub file-image : (f a r : List ℕ) → ((i : ℕ) → getD f i 0 < 256) → marked? f ≡ true → versionIn f ≡ newest → Fits f a r → image (arenaIn f) (recordIn f) ≡ f
 unfolding image
 file-image f a r small e v F =
-    let l : length f ≡ 1589 + length a = F .file ∙ ap (λ (n : ℕ). imageBytes n (length a)) v ∙ omega arith in
+    let l : length f ≡ 1593 + length a = F .file ∙ ap (λ (n : ℕ). imageBytes n (length a)) v ∙ omega arith in
     let heap : recordIn f ++ arenaIn f ≡ drop 9 f =
-    ap (λ (t : List ℕ). t ++ arenaIn f) (record-new f v) ∙ ap (λ (t : List ℕ). take 1580 (drop 9 f) ++ t) (arena-new f v ∙ sym (drop-drop 1580 9 f)) ∙ take-append-drop 1580 (drop 9 f) in
+    ap (λ (t : List ℕ). t ++ arenaIn f) (record-new f v) ∙ ap (λ (t : List ℕ). take 1584 (drop 9 f) ++ t) (arena-new f v ∙ sym (drop-drop 1584 9 f)) ∙ take-append-drop 1584 (drop 9 f) in
     let long : length (arenaIn f) ≡ lengthIn f = parts-long f a r F .0 ∙ sym (F .arena) in
     let known : digits 2 newest ++ drop 5 f ≡ drop 3 f = ap (λ (n : ℕ). digits 2 n ++ drop 5 f) (sym v) ∙ digits-at 2 f 3 (omega arith) small in
     rw (heap, long, digits-at 4 f 5 (omega arith) small, known) (sym (marked-starts f e))

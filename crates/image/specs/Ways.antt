@@ -1,12 +1,12 @@
 -- What the tests of a file say, and each way through writing and reading: one lemma for each refusal, and one for the call that goes through. Assumes nothing.
 use mathlib.Core.Path.{_≡_, refl, sym, ap, _∙_, subst}
 use mathlib.Core.Bool.{Bool, true, false}
-use mathlib.Core.List.{List, _∷_, _++_, append-assoc}
+use mathlib.Core.List.{List, _++_, append-assoc}
 use mathlib.Core.Logic.{_⊎_, inl, inr, ⊎-elim}
-use Prim.Native.Nat.{ℕ, zero, suc, _+_, _-_, _≤_, _<_}
+use Prim.Native.Nat.{ℕ, _+_, _-_, _≤_, _<_}
 use native.Mathlib.Omega.{arith}
 use lib.Dec.{eqb, ltb, leb}
-use lib.ListN.{length, take, drop, replicate, length-append, length-take, length-drop, length-replicate}
+use lib.ListN.{length, take, drop, length-append, length-take, length-drop}
 use lib.Seq.{take-all}
 use borrow.Author.Tests.{eq-eqb, ne-eqb, eqb-true, leb-true, lt-ltb, le-ltb}
 use Rattle.le.specs.Number.{digits}
@@ -21,7 +21,7 @@ use Rattle.machine.specs.declared.Refusal.the-variants as R
 use Rattle.sound.specs.Tiles.{lt-or-le}
 use Rattle.calls.specs.Ways.{shape-true, shape-long, shape-allowed}
 use Rattle.image.specs.declared.Reading.the-variants.{NoMark, NoVersion, WrongLength, Read}
-use Rattle.image.specs.Image.{mark, known?, recordBytesBy, image, imageBytes, lengthAt, Written, written, writeCall, marked?, versionIn, lengthIn, recordIn, arenaIn, fits?, completed, AfterReading, afterReading, heapRead, readCall}
+use Rattle.image.specs.Image.{mark, known?, recordBytesBy, image, imageBytes, lengthAt, Written, written, writeCall, marked?, versionIn, lengthIn, lackedRecord, recordIn, arenaIn, fits?, completed, AfterReading, afterReading, heapRead, readCall}
 
 -- ---- tests
 pub clash : {B : Type 0} → _≡_ {A = ℕ} 0 1 → B
@@ -131,24 +131,26 @@ parts-image a r d e p q s t k = k ∙ rw (t, s, q, p, d, e) (in-a-row mark (digi
 pub by-old : (v : ℕ) → v < 2 → recordBytesBy v ≡ 1572
 by-old v l = rw (lt-ltb v 2 l, recordBytesBy)
 
-pub by-new : (v : ℕ) → 2 ≤ v → recordBytesBy v ≡ 1580
-by-new v l = rw (le-ltb v 2 l, recordBytesBy)
+pub by-keyed : (v : ℕ) → 2 ≤ v → v < 4 → recordBytesBy v ≡ 1580
+by-keyed v l m = rw (le-ltb v 2 l, lt-ltb v 4 m, recordBytesBy)
 
-pub by-most : (v : ℕ) → (1572 ≤ recordBytesBy v) × (recordBytesBy v ≤ 1580)
-by-most v = ⊎-elim (λ l. let e = by-old v l in (omega arith, omega arith)) (λ l. let e = by-new v l in (omega arith, omega arith)) (lt-or-le v 2)
+pub by-new : (v : ℕ) → 4 ≤ v → recordBytesBy v ≡ recordBytes
+by-new v l = rw (le-ltb v 2 (omega arith), le-ltb v 4 l, recordBytesBy)
 
--- a record that is completed with zeros: z is put behind the part p
-pub record-completed : (p z q u : List ℕ) (n m : ℕ) → length q ≡ recordBytes → length p ≤ recordBytes → n ≡ length p → m ≡ n + length z → z ≡ replicate (recordBytes - length p) 0
-    → take n u ≡ p → take m q ≡ take n u ++ z → q ≡ p ++ replicate (recordBytes - length p) 0
-record-completed p z q u n m l k en em ez eu e =
-    sym (take-all m q (omega (arith, l, em, en, ap length ez ∙ length-replicate {A = ℕ} (recordBytes - length p) 0))) ∙ e ∙ rw (eu, ez)
+pub by-most : (v : ℕ) → (1572 ≤ recordBytesBy v) × (recordBytesBy v ≤ recordBytes)
+by-most v = ⊎-elim
+    (λ l. let e = by-old v l in (omega arith, omega arith))
+    (λ l. ⊎-elim (λ m. let e = by-keyed v l m in (omega arith, omega arith)) (λ m. let e = by-new v m in (omega arith, omega arith)) (lt-or-le v 4))
+    (lt-or-le v 2)
 
-pub zeros-taken : (n m : ℕ) → n ≤ m → take n (replicate m 0) ≡ replicate {A = ℕ} n 0
-zeros-taken zero m l = refl
-zeros-taken (suc n) zero l = absurd (omega arith)
-zeros-taken (suc n) (suc m) l = ap (λ (t : List ℕ). 0 ∷ t) (zeros-taken n m (omega arith))
+-- a record that is completed: z, what it lacks, is put behind the part p
+pub record-completed : (p z q u : List ℕ) (n m : ℕ) → length q ≡ recordBytes → 1572 ≤ length p → length p ≤ recordBytes → n ≡ length p → m ≡ n + length z
+    → z ≡ drop (length p - 1572) lackedRecord → take n u ≡ p → take m q ≡ take n u ++ z → q ≡ p ++ drop (length p - 1572) lackedRecord
+unfolding digits
+record-completed p z q u n m l j k en em ez eu e =
+    sym (take-all m q (omega (arith, l, em, en, ap length ez ∙ length-drop (length p - 1572) lackedRecord))) ∙ e ∙ rw (eu, ez)
 
--- ---- a version that is known is 1, 2 or 3
+-- ---- a version that is known is 1, 2, 3 or 4
 pub known-true : (v : ℕ) → known? v ≡ true → (1 ≤ v) × (v ≤ newest)
 known-true v e = let p = both-yes (leb 1 v) (leb v newest) e in (leb-true 1 v (p .0), leb-true v newest (p .1))
 
@@ -204,12 +206,13 @@ module _ (f a r : List ℕ) where
 
   -- the parts of a file that fits are as long as the lent buffers
   pub parts-long : Fits f a r → (length (arenaIn f) ≡ length a) × (length (recordIn f) ≡ recordBytes)
+  unfolding digits
   parts-long F =
       let v : ℕ = recordBytesBy (versionIn f) in
       let m = by-most (versionIn f) in (
         omega (arith, F .file, length-drop (9 + v) f),
-        length-append (take v (drop 9 f)) (replicate (recordBytes - v) 0)
-            ∙ omega (arith, F .file, length-take v (drop 9 f), length-drop 9 f, length-replicate {A = ℕ} (recordBytes - v) 0),
+        length-append (take v (drop 9 f)) (drop (v - 1572) lackedRecord)
+            ∙ omega (arith, F .file, length-take v (drop 9 f), length-drop 9 f, length-drop (v - 1572) lackedRecord),
       )
 
   -- b, as long as a, begins with the file's arena, and so is that; q is its record
@@ -219,14 +222,14 @@ module _ (f a r : List ℕ) where
       let i′ : b ≡ arenaIn f = whole n b (arenaIn f) (k ∙ sym (parts-long F .0)) i in
       z ∙ ap (λ (v : ℕ). heapRead v b q) w ∙ ap (λ (b : List ℕ). heapRead (versionIn f) b q) i′ ∙ ap (heapRead (versionIn f) (arenaIn f)) j ∙ read-through e t (true-fits f a r F)
 
--- the record as it is put: n bytes of the file, and zeros
+-- the record as it is put: n bytes of the file, and what they lack
 pub record-put : (f : List ℕ) (n k : ℕ) → n ≡ recordBytesBy (versionIn f) → 9 + n ≤ length f → k ≡ n
-    → take k (drop 9 f) ++ replicate (recordBytes - length (take k (drop 9 f))) 0 ≡ recordIn f
+    → take k (drop 9 f) ++ drop (length (take k (drop 9 f)) - 1572) lackedRecord ≡ recordIn f
 record-put f n k e l h =
     let t : length (take k (drop 9 f)) ≡ n = omega (arith, length-take k (drop 9 f), length-drop 9 f) in
-    ap (λ (i : ℕ). take k (drop 9 f) ++ replicate (recordBytes - i) 0) t
-    ∙ ap (λ (i : ℕ). take i (drop 9 f) ++ replicate (recordBytes - n) 0) h
-    ∙ ap (λ (i : ℕ). take i (drop 9 f) ++ replicate (recordBytes - i) 0) e
+    ap (λ (i : ℕ). take k (drop 9 f) ++ drop (i - 1572) lackedRecord) t
+    ∙ ap (λ (i : ℕ). take i (drop 9 f) ++ drop (n - 1572) lackedRecord) h
+    ∙ ap (λ (i : ℕ). take i (drop 9 f) ++ drop (i - 1572) lackedRecord) e
 
 -- buffers of the same lengths have the same shape
 pub same-shape : (m n m₀ n₀ : ℕ) → m ≡ m₀ → n ≡ n₀ → both (eqb n₀ recordBytes) (arenaAllowed? m₀) ≡ true → both (eqb n recordBytes) (arenaAllowed? m) ≡ true

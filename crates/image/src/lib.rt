@@ -24,8 +24,10 @@ pub const RECORD_AT: usize = 9;
 
 pub const ARENA_AT: usize = RECORD_AT + RECORD_BYTES;
 
-// The record's bytes in a file of version 1, which has no key.
+// The record's bytes in a file of version 1, which has no key, and of versions 2 and 3, which have no edition.
 const RECORD_BYTES_1: usize = 1572;
+
+const RECORD_BYTES_2: usize = 1580;
 
 // The record's bytes in a file of version v.
 pub fn record_bytes(v: u16) -> usize
@@ -33,6 +35,9 @@ pub fn record_bytes(v: u16) -> usize
 {
     if v < 2 {
         return RECORD_BYTES_1;
+    }
+    if v < 4 {
+        return RECORD_BYTES_2;
     }
     RECORD_BYTES
 }

@@ -55,7 +55,7 @@ keys-mem h w ws s m kw =
     record {
       long = rw apply-length (m .long);
       words = tiles-agree w v 0 (all h) (ag 0 S (omega arith) (λ x i. i)) (ag 1 S (omega arith) (λ x i. i)) (m .words);
-      chains = λ k. chain-cong w v (stack h k) (ag 2 (stack h k) (omega arith) (λ x i. sub x (omega (arith, cnt-le-all x (h .stacks) k)))) (m .chains k);
+      chains = λ k. chain-cong (h .edition) w v (stack h k) (ag 2 (stack h k) (omega arith) (λ x i. sub x (omega (arith, cnt-le-all x (h .stacks) k)))) (m .chains k);
       blinks = λ j.
           let sb : Sub (bin h j) S = λ x i. in-starts h x s (omega (arith, cnt-le-all x (h .bins) j)) in
           links-cong w v none64 (bin h j) none64 (ag 2 (bin h j) (omega arith) sb)
@@ -63,6 +63,7 @@ keys-mem h w ws s m kw =
           (inr (λ x i. omega (arith, s .own x, starts-all h x, G .once x, cnt-le-all x (h .bins) j))) kw)) (m .blinks j);
       keys = λ z. absurd (omega arith);
       key64 = m .key64;
+      edited = m .edited;
       skipped = λ z. absurd (omega (arith, z));
     }
 
@@ -115,6 +116,7 @@ keyed-sound h w r o =
             let b : x / 8 + 4 ≤ length w = G .inside x (in-starts h x s (omega (arith, cnt-le-all x (h .stacks) k))) in
             keysIn-has (h .key) x cached w (omega arith) (inl (omega (arith, cnt-le-all x cached k, ap (cnt x) (getD-take cacheLists (h .stacks) k [] p))));
         key64 = m .key64;
+        edited = m .edited;
         skipped = λ z. absurd (omega (arith, z));
       };
       rec = o .rec;

@@ -83,7 +83,7 @@ module _ {h : Heap} {r v w : List ℕ} {x : ℕ} (P : Putting h r v w x) where
       rest = tl (P .rest);
       on = record {
         first = next .first;
-        chained = chain-cong w u (tl (P .rest)) (λ z m. low z 2 (omega (arith, next .part z)) (omega arith)) (next .chained);
+        chained = chain-cong 1 w u (tl (P .rest)) (λ z m. low z 2 (omega (arith, next .part z)) (omega arith)) (next .chained);
         part = next .part;
       };
       same = ap (apply (allPut (λ y. sizeOf h y) (tl (P .rest)))) eu

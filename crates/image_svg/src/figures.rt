@@ -137,7 +137,7 @@ fn count_chunks(a: &[u8], m: &[u8], top: u64) -> Figures
 
 // Of a heap whose audit by version v of the rules has tiles to show.
 pub fn figures_of(v: u16, a: &[u8], r: &[u32]) -> Figures
-    requires { ⌜ ArenaBytes (now a) × (length (now r) ≡ 395) × (tiled? (auditBy v (arenaWords (now a)) (now r)) ≡ true) ⌝ }
+    requires { ⌜ ArenaBytes (now a) × (length (now r) ≡ 396) × (tiled? (auditBy v (arenaWords (now a)) (now r)) ≡ true) ⌝ }
 {
     let top = Chunk(r[TOP_WORD] as u64);
     let mut m = [UNMARKED; 16384];

@@ -181,7 +181,7 @@ fn put_untiled(out: &mut [u8], at: usize, n: usize) -> usize
 
 // The figures, and the strip.
 fn put_tiled(out: &mut [u8], at: usize, v: u16, a: &[u8], r: &[u32], y: u64) -> usize
-    requires { ⌜ ArenaBytes (now a) × (length (now r) ≡ 395) × (tiled? (auditBy v (arenaWords (now a)) (now r)) ≡ true) ⌝ }
+    requires { ⌜ ArenaBytes (now a) × (length (now r) ≡ 396) × (tiled? (auditBy v (arenaWords (now a)) (now r)) ≡ true) ⌝ }
     requires { ⌜ at ≤ 22000 ⌝ }
     requires { ⌜ y ≤ 1300 ⌝ }
     requires { ⌜ length (now out) ≡ 1671168 ⌝ }
@@ -209,7 +209,7 @@ fn put_picture(out: &mut [u8], v: u16, arena: &[u8], control: &[u8], x: Audited)
     if !tiled(x) {
         return put_untiled(out, a0, n);
     }
-    let mut r = [0u32; 395];
+    let mut r = [0u32; 396];
     record_words::read_words(control, &mut r);
     put_tiled(out, a0, v, arena, &r, below(rows))
 }
@@ -241,7 +241,7 @@ fn put_reading(out: &mut [u8], file: &[u8], arena: &[u8], control: &[u8], x: Rea
 // The picture of a file. Arena and record are lent to read it into.
 pub fn put_svg(out: &mut [u8], file: &[u8], arena: &mut [u8], control: &mut [u8]) -> usize
     requires { ⌜ length (now arena) ≡ 262144 ⌝ }
-    requires { ⌜ length (now control) ≡ 1580 ⌝ }
+    requires { ⌜ length (now control) ≡ 1584 ⌝ }
     requires { ⌜ length (now out) ≡ 1671168 ⌝ }
     ensures { λ n. ⌜ n ≤ 1671168 ⌝ }
     ensures { λ n. ⌜ PictureOf (now (file .entry)) (take n (now (out .exit))) ⌝ }

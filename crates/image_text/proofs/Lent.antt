@@ -21,12 +21,12 @@ use Rattle.image.specs.Parts.{taken, taken-shape}
 use Rattle.image.specs.Older.{read-audits}
 use Rattle.image_text.specs.ImageText.{AuditedBy, heapText, readText, imageText}
 
-pub text-of : (v : ℕ) (a r : List ℕ) {t : List ℕ} {x y : Reading} → x ≡ y → t ≡ readText v (afterReading a r y) → t ≡ readText v (afterReading a r x)
-text-of v a r e h = rw e h
+pub text-of : (d : Bool) (v : ℕ) (a r : List ℕ) {t : List ℕ} {x y : Reading} → x ≡ y → t ≡ readText d v (afterReading a r y) → t ≡ readText d v (afterReading a r x)
+text-of d v a r e h = rw e h
 
-pub heap-of : (f a r : List ℕ) {t : List ℕ} {v : ℕ} {x : Reading} {y : Audited} → x ≡ Read y → v ≡ versionIn f → t ≡ heapText v a r y
-    → t ≡ readText (versionIn f) (afterReading a r x)
-heap-of f a r e k h = text-of (versionIn f) a r e (h ∙ rw k)
+pub heap-of : (d : Bool) (f a r : List ℕ) {t : List ℕ} {v : ℕ} {x : Reading} {y : Audited} → x ≡ Read y → v ≡ versionIn f → t ≡ heapText d v a r y
+    → t ≡ readText d (versionIn f) (afterReading a r x)
+heap-of d f a r e k h = text-of d (versionIn f) a r e (h ∙ rw k)
 
 -- what is lent to read f into: a record, and an arena of the length that f says, unless that is none
 pub record Lent (f a r : List ℕ) : Type 0 where
@@ -50,21 +50,21 @@ module _ (f : List ℕ) where
   fits-same a r b q l k =
       tests-same (arenaAllowed? (lengthIn f)) (eqb (length f) (imageBytes (versionIn f) (lengthIn f))) _ _ (λ s t. lent-lengths a r l s t ∙ sym (lent-lengths b q k s t))
 
-  text-same : (a r b q : List ℕ) → fits? f a r ≡ fits? f b q → readText (versionIn f) (readCall f a r) ≡ readText (versionIn f) (readCall f b q)
-  text-same a r b q e =
-      read-cases (λ y. readText (versionIn f) y ≡ readText (versionIn f) (readCall f b q)) f a r
-      (λ m. ap (readText (versionIn f)) (read-no-mark f b q m))
-      (λ m v. ap (readText (versionIn f)) (read-no-version f b q m v))
-      (λ m v t. ap (readText (versionIn f)) (read-wrong-length f b q m v (sym e ∙ t)))
-      (λ m v t. ap (readText (versionIn f)) (read-through f b q m v (sym e ∙ t)))
+  text-same : (d : Bool) (a r b q : List ℕ) → fits? f a r ≡ fits? f b q → readText d (versionIn f) (readCall f a r) ≡ readText d (versionIn f) (readCall f b q)
+  text-same d a r b q e =
+      read-cases (λ y. readText d (versionIn f) y ≡ readText d (versionIn f) (readCall f b q)) f a r
+      (λ m. ap (readText d (versionIn f)) (read-no-mark f b q m))
+      (λ m v. ap (readText d (versionIn f)) (read-no-version f b q m v))
+      (λ m v t. ap (readText d (versionIn f)) (read-wrong-length f b q m v (sym e ∙ t)))
+      (λ m v t. ap (readText d (versionIn f)) (read-through f b q m v (sym e ∙ t)))
 
   pub lent-zeros : Lent f (replicate (lengthIn f) 0) (replicate recordBytes 0)
   lent-zeros = record { arena = λ h k. length-replicate (lengthIn f) 0; long = refl }
 
-  pub read-text : (a r b q : List ℕ) (x : Reading) → Lent f a r → afterReading b q x ≡ readCall f a r
-      → readText (versionIn f) (afterReading b q x) ≡ imageText f
+  pub read-text : (d : Bool) (a r b q : List ℕ) (x : Reading) → Lent f a r → afterReading b q x ≡ readCall f a r
+      → readText d (versionIn f) (afterReading b q x) ≡ imageText d f
   unfolding imageText
-  read-text a r b q x l e = ap (readText (versionIn f)) e ∙ text-same a r _ _ (fits-same a r _ _ l lent-zeros)
+  read-text d a r b q x l e = ap (readText d (versionIn f)) e ∙ text-same d a r _ _ (fits-same a r _ _ l lent-zeros)
 
   -- what was read has a version, by whose rules the answer is the audit's
   pub read-audited : (a r b q : List ℕ) (x : Reading) → ((i : ℕ) → getD f i 0 < 256) → afterReading b q x ≡ readCall f a r

@@ -10,8 +10,8 @@ use Rattle.le.specs.Arena.{arenaWords}
 use Rattle.sizes.specs.Layout.{lengthWord, topWord}
 use Rattle.machine.specs.Lists.{both}
 use Rattle.machine.specs.Heap.{Tile}
-use Rattle.machine.specs.View.{tilesOf}
-use Rattle.machine.specs.Audit.{sound?, first, tileOk, tileFault, auditBy}
+use Rattle.machine.specs.View.{tilesOf, editionIn}
+use Rattle.machine.specs.Audit.{sound?, first, edition?, tileOk, tileFault, auditBy}
 use Rattle.machine.specs.Calls.{wordsOf}
 use Rattle.machine.specs.declared.Audited.{Audited}
 use Rattle.machine.specs.declared.Audited.the-variants as A
@@ -23,7 +23,7 @@ use Rattle.image_text.specs.ImageText.{tiled?, AuditedBy}
 -- arena bytes a and record bytes r whose tiles are shown, by the rules of version v
 pub record Shown (v : ℕ) (a r : List ℕ) : Type 0 where
   pub arena : ArenaBytes a
-  pub long : length r ≡ 1580
+  pub long : length r ≡ 1584
   pub tiled : tiled? (auditBy v (arenaWords a) (wordsOf r)) ≡ true
 
 -- ---- record and tiles
@@ -59,7 +59,7 @@ pub words-shown : (v : ℕ) (w r : List ℕ) → tiled? (auditBy v w r) ≡ true
 unfolding auditBy
 words-shown v w r e =
     first-shown (tileFault w (getD r topWord 0) 0 (tilesOf w)) _ (tile-shown w (getD r topWord 0) 0 (tilesOf w))
-    (record-shown (eqb (getD r lengthWord 0) (8 * length w)) _ e)
+    (record-shown (both (eqb (getD r lengthWord 0) (8 * length w)) (edition? (editionIn r))) _ e)
 
 pub tiled-shown : (v : ℕ) (a r : List ℕ) (x : Audited) → AuditedBy v a r x → tiled? x ≡ true → Shown v a r
 tiled-shown v a r x k e =

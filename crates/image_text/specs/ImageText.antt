@@ -1,5 +1,5 @@
--- What heapimage prints of a file: its version and length, the audit's answer, and a line for each tile with its state, by the rules of that version.
--- Definitions only.
+-- What heapimage prints of a file: its version and length, with -v the edition, the audit's answer, and a line for each tile with its state, by the rules of that
+-- version. Definitions only.
 use mathlib.Core.Path.{_≡_}
 use mathlib.Core.List.{List, [], _∷_, _++_}
 use mathlib.Core.Bool.{Bool, true, false}
@@ -9,7 +9,7 @@ use lib.ListN.{length, replicate}
 use Rattle.le.specs.Arena.{arenaWords}
 use Rattle.sizes.specs.Limits.{recordBytes}
 use Rattle.machine.specs.Heap.{Tile}
-use Rattle.machine.specs.View.{kindAt, tilesOf}
+use Rattle.machine.specs.View.{kindAt, tilesOf, editionIn}
 use Rattle.machine.specs.Audit.{auditBy}
 use Rattle.machine.specs.Calls.{shape?, wordsOf}
 use Rattle.machine.specs.declared.{ListKind.ListKind, Audited.Audited}
@@ -22,9 +22,12 @@ use Rattle.audit_reached.specs.Reached.{reachedIn}
 use Rattle.image.specs.Image.{versionIn, lengthIn, readCall, AfterReading, afterReading, readingNumbers}
 use Rattle.image.specs.declared.Reading.the-variants.{NoMark, NoVersion, WrongLength, Read}
 
--- ---- the words: image, sound, fault, record, tile, flag, cache, fast, bin, live, top
+-- ---- the words: image, edition, sound, fault, record, tile, flag, cache, fast, bin, live, top
 abbrev pub imageWord : List ℕ
 imageWord = 105 ∷ 109 ∷ 97 ∷ 103 ∷ 101 ∷ []
+
+abbrev pub editionName : List ℕ
+editionName = 101 ∷ 100 ∷ 105 ∷ 116 ∷ 105 ∷ 111 ∷ 110 ∷ []
 
 abbrev pub soundWord : List ℕ
 soundWord = 115 ∷ 111 ∷ 117 ∷ 110 ∷ 100 ∷ []
@@ -59,6 +62,13 @@ topWord = 116 ∷ 111 ∷ 112 ∷ []
 -- ---- image VERSION LENGTH
 unfoldable pub headText : ℕ → ℕ → List ℕ
 headText v n = imageWord ++ (field v ++ (field n ++ (newline ∷ [])))
+
+-- with -v the edition in the record r as well: edition D
+unfoldable pub editionText : List ℕ → List ℕ
+editionText r = editionName ++ (field (editionIn (wordsOf r)) ++ (newline ∷ []))
+
+unfoldable pub firstText : Bool → ℕ → ℕ → List ℕ → List ℕ
+firstText e v n r = headText v n ++ elim e [ true ↦ editionText r | false ↦ [] ]
 
 -- ---- the audit's answer: sound; fault, and what and where. A file that is read has a good shape
 unfoldable pub listText : ListKind → List ℕ
@@ -131,16 +141,16 @@ pub record AuditedBy (v : ℕ) (a r : List ℕ) (x : Audited) : Type 0 where
   pub shape : shape? a r ≡ true
   pub is : x ≡ auditBy v (arenaWords a) (wordsOf r)
 
--- the text of that heap
-unfoldable pub heapText : ℕ → List ℕ → List ℕ → Audited → List ℕ
-heapText v a r x = headText v (length a) ++ (auditText x ++ elim (tiled? x) [ true ↦ arenaText Lines v a (wordsOf r) | false ↦ [] ])
+-- the text of that heap, with -v or without
+unfoldable pub heapText : Bool → ℕ → List ℕ → List ℕ → Audited → List ℕ
+heapText e v a r x = firstText e v (length a) r ++ (auditText x ++ elim (tiled? x) [ true ↦ arenaText Lines v a (wordsOf r) | false ↦ [] ])
 
 -- ---- a file: what is read of it, of version v, into buffers of the right lengths, or `? N`
-abbrev pub readText : ℕ → AfterReading → List ℕ
-readText v (afterReading a r NoMark) = questionText (readingNumbers NoMark .no)
-readText v (afterReading a r NoVersion) = questionText (readingNumbers NoVersion .no)
-readText v (afterReading a r WrongLength) = questionText (readingNumbers WrongLength .no)
-readText v (afterReading a r (Read x)) = heapText v a r x
+abbrev pub readText : Bool → ℕ → AfterReading → List ℕ
+readText e v (afterReading a r NoMark) = questionText (readingNumbers NoMark .no)
+readText e v (afterReading a r NoVersion) = questionText (readingNumbers NoVersion .no)
+readText e v (afterReading a r WrongLength) = questionText (readingNumbers WrongLength .no)
+readText e v (afterReading a r (Read x)) = heapText e v a r x
 
-unfoldable pub imageText : List ℕ → List ℕ
-imageText f = readText (versionIn f) (readCall f (replicate (lengthIn f) 0) (replicate recordBytes 0))
+unfoldable pub imageText : Bool → List ℕ → List ℕ
+imageText e f = readText e (versionIn f) (readCall f (replicate (lengthIn f) 0) (replicate recordBytes 0))

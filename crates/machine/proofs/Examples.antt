@@ -324,16 +324,16 @@ numberOf (after a r x) = answerNumbers x .no
 numberAfter : (List ℕ → List ℕ → After) → After → ℕ
 numberAfter f (after a r x) = numberOf (f a r)
 
-number-2-first : numberAfter (λ a r. resizeCall a r 16 262145) (openCall (replicate 32 0) (replicate 1580 0) 99) ≡ 2
+number-2-first : numberAfter (λ a r. resizeCall a r 16 262145) (openCall (replicate 32 0) (replicate 1584 0) 99 1) ≡ 2
 unfolding numberOf numberAfter openCall resizeCall recordOf words digits bytes number numberFrom arenaWords
 number-2-first = refl
 
 -- on a record of zeros, which is no heap's, a grant above 262,144 is refused with 2 and not with 3, and null with 3
-number-2-before-3 : numberOf (grantCall (replicate 32 0) (replicate 1580 0) 262145) ≡ 2
+number-2-before-3 : numberOf (grantCall (replicate 32 0) (replicate 1584 0) 262145) ≡ 2
 unfolding numberOf grantCall
 number-2-before-3 = refl
 
-null-unsound : numberOf (releaseCall (replicate 32 0) (replicate 1580 0) 0) ≡ 3
+null-unsound : numberOf (releaseCall (replicate 32 0) (replicate 1584 0) 0) ≡ 3
 unfolding numberOf releaseCall auditBy words digits bytes number numberFrom arenaWords
 null-unsound = refl
 

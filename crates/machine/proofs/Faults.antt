@@ -21,7 +21,7 @@ arena =
     0 ∷ 81 ∷ replicate 8 0
 
 kept : List ℕ
-kept = 256 ∷ 176 ∷ 7 ∷ (0 ∷ replicate 63 none32) ++ ((1 ∷ replicate 63 0) ++ (replicate 10 none32 ++ (80 ∷ 80 ∷ replicate 250 none32 ++ (9 ∷ 2 ∷ []))))
+kept = 256 ∷ 176 ∷ 7 ∷ (0 ∷ replicate 63 none32) ++ ((1 ∷ replicate 63 0) ++ (replicate 10 none32 ++ (80 ∷ 80 ∷ replicate 250 none32 ++ (9 ∷ 2 ∷ 1 ∷ []))))
 
 -- kind and number of the audit's answer
 verdict : List ℕ → List ℕ → List ℕ

@@ -4,6 +4,7 @@ use mathlib.Core.List.{List, [], _∷_, _++_}
 use mathlib.Core.Bool.{Bool, true, false}
 use Prim.Native.Nat.{ℕ, _+_, _-_}
 use lib.Dec.{eqb, leb}
+use Rattle.sizes.specs.Limits.{plain}
 use Rattle.sizes.specs.Sizes.{need, usable, cacheOf, fastOf, binOf, largeBin}
 use Rattle.machine.specs.Lists.{both}
 use Rattle.machine.specs.Heap.{Heap, opened, topOf, sizeOf, live?, recordOf}
@@ -55,9 +56,14 @@ abbrev pub runHeap : List Line → Heap → Log
 runHeap [] h = log [] h []
 runHeap (l ∷ ls) h = step l h (λ g. runHeap ls g)
 
-unfoldable pub script : ℕ → List Line → Log
+-- on a newly opened heap of n bytes in edition d; and in edition 1
+unfoldable pub scriptBy : ℕ → ℕ → List Line → Log
 unfolding need usable cacheOf fastOf binOf largeBin recordOf absorb joinNext putDown join releasePast release drain drains consolidate emptying joining step1 moveFast step2 takeLast moveLasts step3 step4 split sortIn splitLone keep turnAt turn swept sweep step5 carve step8 step6 step7 step9 pass again from4 seek grant nextP finish resize
-script n ls = runHeap ls (opened n 99)
+scriptBy d n ls = runHeap ls (opened n 99 d)
+
+unfoldable pub script : ℕ → List Line → Log
+unfolding scriptBy
+script n ls = scriptBy plain n ls
 
 abbrev pub outs : Log → List ℕ
 outs (log out h ws) = out

@@ -5,14 +5,14 @@ use mathlib.Core.Bool.{Bool, true, false}
 use Prim.Native.Nat.{ℕ, suc, _+_, _*_}
 use lib.Dec.{eqb, ltb, leb}
 use lib.ListN.{length, getD, drop}
-use Rattle.sizes.specs.Limits.{none64, cacheRoom, mostFast, unsorted, leastChunk, newest}
+use Rattle.sizes.specs.Limits.{none64, cacheRoom, mostFast, unsorted, leastChunk, newest, plain, mixed}
 use Rattle.sizes.specs.Sizes.{binOf}
 use Rattle.sizes.specs.Layout.{lengthWord, topWord, cacheCount, binLast, backWord, keyWord}
 use Rattle.machine.specs.Lists.{both, either, has?, without, minus}
 use Rattle.machine.specs.Heap.{Tile, Heap, starts, endFrom, binned}
 use Rattle.machine.specs.Writes.{stand?}
 use Rattle.machine.specs.Skips.{skips}
-use Rattle.machine.specs.View.{sizeAt, lowAt, tileAt, up, kindAt, keyIn, view}
+use Rattle.machine.specs.View.{sizeAt, lowAt, tileAt, up, kindAt, keyIn, editionIn, view}
 use Rattle.machine.specs.declared.{Audited.Audited, ListKind.ListKind}
 use Rattle.machine.specs.declared.ListKind.the-variants.{Cache, Fast, Bin}
 use Rattle.machine.specs.declared.Audited.the-variants as A
@@ -29,9 +29,12 @@ sound? A.Shape = false
 abbrev pub first : Audited → Audited → Audited
 first x y = elim (sound? x) [ true ↦ y | false ↦ x ]
 
--- ---- Record: its length is the arena's.
+-- ---- Record: its length is the arena's; its edition is 1 or 2.
+abbrev pub edition? : ℕ → Bool
+edition? d = either (eqb d plain) (eqb d mixed)
+
 abbrev pub recordFault : List ℕ → List ℕ → Audited
-recordFault w r = elim (eqb (getD r lengthWord 0) (8 * length w)) [ true ↦ A.Sound | false ↦ A.Record ]
+recordFault w r = elim (both (eqb (getD r lengthWord 0) (8 * length w)) (edition? (editionIn r))) [ true ↦ A.Sound | false ↦ A.Record ]
 
 -- ---- Tiles from 0: size a multiple of 16, at least 32, within what remains, bits 1 to 3 clear; the tile that reaches the end is the record's top.
 -- (a multiple of 16 by sizeAt; all but the last lie within what remains, as tilesFrom reads them)

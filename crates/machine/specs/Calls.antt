@@ -16,7 +16,7 @@ use Rattle.machine.specs.Release.{release, emptying, joining}
 use Rattle.machine.specs.Grant.{grant}
 use Rattle.machine.specs.Resize.{resize}
 use Rattle.machine.specs.View.{view}
-use Rattle.machine.specs.Audit.{sound?, auditOf}
+use Rattle.machine.specs.Audit.{sound?, auditOf, edition?}
 use Rattle.machine.specs.declared.{Got.Got, ListKind.ListKind, Audited.Audited, Refusal.Refusal, Answer.Answer, HeapAnswer.HeapAnswer, HeapFault.HeapFault}
 use Rattle.machine.specs.declared.Got.the-variants.{At, Nothing}
 use Rattle.machine.specs.declared.ListKind.the-variants.{Cache, Fast, Bin}
@@ -31,6 +31,7 @@ refusalNo R.Request = 2
 refusalNo R.Unsound = 3
 refusalNo R.NotLive = 4
 refusalNo R.NoRoom = 5
+refusalNo R.Edition = 12
 
 -- number, mem, usable; a refusal answers mem 0, usable 0
 abbrev pub answerNumbers : Answer → HeapAnswer
@@ -51,7 +52,7 @@ faultNumbers (A.List k) = listNumbers k
 faultNumbers (A.Flag o) = record { no = 0; kind = 6; number = o }
 faultNumbers A.Shape = record { no = 1; kind = 0; number = 0 }
 
--- ---- shape: the arena's length a multiple of 16 from 32 to 262,144; the record 1,580 bytes
+-- ---- shape: the arena's length a multiple of 16 from 32 to 262,144; the record 1,584 bytes
 abbrev pub arenaAllowed? : ℕ → Bool
 arenaAllowed? n = both (eqb (n % 16) 0) (both (leb leastArena n) (leb n mostArena))
 
@@ -87,15 +88,18 @@ onSound a r f = elim (shape? a r) [
   | false ↦ refused a r R.Shape
 ]
 
--- ---- open. A refused one leaves length, counts and key 0, all else none; a record not of 1,580 bytes is never written
+-- ---- open. A refused one leaves length, counts, key and edition 0, all else none; a record not of 1,584 bytes is never written
 unfoldable pub closedRecord : List ℕ
-closedRecord = (0 ∷ none32 ∷ none32 ∷ []) ++ (replicate 64 none32 ++ (replicate 64 0 ++ (replicate 262 none32 ++ halves 0)))
+closedRecord = (0 ∷ none32 ∷ none32 ∷ []) ++ (replicate 64 none32 ++ (replicate 64 0 ++ (replicate 262 none32 ++ (halves 0 ++ 0 ∷ []))))
 
--- open, with the key q, writes the length with P at byte 8
-unfoldable pub openCall : List ℕ → List ℕ → ℕ → After
-openCall a r q = elim (eqb (length r) recordBytes) [
+-- open, with the key q, in edition d, writes the length with P at byte 8; number 1, then number 12
+unfoldable pub openCall : List ℕ → List ℕ → ℕ → ℕ → After
+openCall a r q d = elim (eqb (length r) recordBytes) [
   | true ↦ elim (arenaAllowed? (length a)) [
-    | true ↦ left a (opened (length a) q) (size 0 (length a) 1 ∷ []) Done
+    | true ↦ elim (edition? d) [
+      | true ↦ left a (opened (length a) q d) (size 0 (length a) 1 ∷ []) Done
+      | false ↦ after a (bytes 4 closedRecord) (Refused R.Edition)
+    ]
     | false ↦ after a (bytes 4 closedRecord) (Refused R.Shape)
   ]
   | false ↦ refused a r R.Shape

@@ -24,6 +24,7 @@ pub record Heap : Type 0 where
   pub bins : List (List ℕ)
   pub remainder : ℕ
   pub key : ℕ
+  pub edition : ℕ
 
 abbrev pub stack : Heap → ℕ → List ℕ
 stack h k = getD (h .stacks) k []
@@ -46,16 +47,16 @@ anyFast? h = any? (drop cacheLists (h .stacks))
 
 -- ---- the heap with one part changed
 abbrev pub withTiles : List Tile → Heap → Heap
-withTiles ts h = record { len = h .len; tiles = ts; stacks = h .stacks; bins = h .bins; remainder = h .remainder; key = h .key }
+withTiles ts h = record { len = h .len; tiles = ts; stacks = h .stacks; bins = h .bins; remainder = h .remainder; key = h .key; edition = h .edition }
 
 abbrev pub withStack : ℕ → List ℕ → Heap → Heap
-withStack k l h = record { len = h .len; tiles = h .tiles; stacks = set (h .stacks) k l; bins = h .bins; remainder = h .remainder; key = h .key }
+withStack k l h = record { len = h .len; tiles = h .tiles; stacks = set (h .stacks) k l; bins = h .bins; remainder = h .remainder; key = h .key; edition = h .edition }
 
 abbrev pub withBin : ℕ → List ℕ → Heap → Heap
-withBin j l h = record { len = h .len; tiles = h .tiles; stacks = h .stacks; bins = set (h .bins) j l; remainder = h .remainder; key = h .key }
+withBin j l h = record { len = h .len; tiles = h .tiles; stacks = h .stacks; bins = set (h .bins) j l; remainder = h .remainder; key = h .key; edition = h .edition }
 
 abbrev pub withRemainder : ℕ → Heap → Heap
-withRemainder c h = record { len = h .len; tiles = h .tiles; stacks = h .stacks; bins = h .bins; remainder = c; key = h .key }
+withRemainder c h = record { len = h .len; tiles = h .tiles; stacks = h .stacks; bins = h .bins; remainder = c; key = h .key; edition = h .edition }
 
 -- ---- tiles: where they start and end, those before c and those from c on
 abbrev pub endFrom : ℕ → List Tile → ℕ
@@ -126,11 +127,11 @@ binFrom j c (l ∷ ls) = elim (eqb (cnt c l) 0) [ true ↦ binFrom (j + 1) c ls 
 abbrev pub binHas : Heap → ℕ → ℕ
 binHas h c = binFrom 0 c (h .bins)
 
--- ---- a newly opened arena of n bytes, with the key q: one tile, the top
-abbrev pub opened : ℕ → ℕ → Heap
-opened n q = record { len = n; tiles = []; stacks = replicate 74 []; bins = replicate 127 []; remainder = none32; key = q }
+-- ---- a newly opened arena of n bytes, with the key q, in edition d: one tile, the top
+abbrev pub opened : ℕ → ℕ → ℕ → Heap
+opened n q d = record { len = n; tiles = []; stacks = replicate 74 []; bins = replicate 127 []; remainder = none32; key = q; edition = d }
 
--- ---- the record's 395 words
+-- ---- the record's 396 words
 abbrev pub ends : List (List ℕ) → List ℕ
 ends [] = []
 ends (l ∷ ls) = hd none32 l ∷ lst none32 l ∷ ends ls
@@ -145,4 +146,4 @@ recordOf h =
     ++ (map (λ l. hd none32 l) (take cacheLists (h .stacks))
     ++ (map (λ l. length l) (take cacheLists (h .stacks))
     ++ (map (λ l. hd none32 l) (drop cacheLists (h .stacks))
-    ++ (ends (drop 1 (h .bins)) ++ halves (h .key)))))
+    ++ (ends (drop 1 (h .bins)) ++ (halves (h .key) ++ h .edition ∷ [])))))

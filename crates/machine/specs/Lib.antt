@@ -1,4 +1,6 @@
 pub mod Lists
+pub mod Mixing
+pub mod MixingLaws
 pub mod Count
 pub mod Heap
 pub mod Writes

@@ -3,6 +3,7 @@ use mathlib.Core.List.{List, [], _∷_, _++_}
 use Prim.Native.Nat.{ℕ, _+_, _-_}
 use Rattle.sizes.specs.Limits.{none64}
 use Rattle.machine.specs.Lists.{hd, lst, tl, pre, post}
+use Rattle.machine.specs.Mixing.{stored}
 use Rattle.machine.specs.Heap.{Tile, tile, Heap, stack, bin, withTiles, withStack, withBin, withRemainder, upTo, edit, topOf, sizeOf, pOf, next}
 use Rattle.machine.specs.Writes.{Write, size, note, link, fwd, back, key, Ran, ran, does, _>>=_}
 use Rattle.machine.specs.Skips.{skipsIn, skipsOut}
@@ -10,7 +11,7 @@ use Rattle.machine.specs.declared.{Got.Got, Got.the-variants.At}
 
 -- ---- stacks: the only place that writes a stack's link
 abbrev pub push : ℕ → ℕ → Heap → Ran (Unit {0})
-push k c h = does (withStack k (c ∷ stack h k) h) (link c (hd none64 (stack h k)) ∷ [])
+push k c h = does (withStack k (c ∷ stack h k) h) (link c (stored (h .edition) c (hd none64 (stack h k))) ∷ [])
 
 abbrev pub pop : ℕ → Heap → Ran Got
 pop k h = ran (withStack k (tl (stack h k)) h) [] (At (hd none64 (stack h k)))

@@ -4,9 +4,10 @@ use mathlib.Core.Bool.{true, false}
 use Prim.Native.Nat.{ℕ, zero, suc, _+_, _-_, _*_, _/_, _%_, _^_}
 use lib.Dec.{eqb, ltb}
 use lib.ListN.{length, getD}
-use Rattle.sizes.specs.Limits.{none64, none32}
-use Rattle.sizes.specs.Layout.{remainderWord, cacheHead, fastHead, binFirst, keyLow, keyHigh, prevWord, sizeWord, fwdWord}
+use Rattle.sizes.specs.Limits.{none64, none32, plain}
+use Rattle.sizes.specs.Layout.{remainderWord, cacheHead, fastHead, binFirst, keyLow, keyHigh, editionWord, prevWord, sizeWord, fwdWord}
 use Rattle.machine.specs.Lists.{tabulate}
+use Rattle.machine.specs.Mixing.{stored}
 use Rattle.machine.specs.Heap.{Tile, tile, Heap}
 use Rattle.machine.specs.declared.{ListKind.ListKind, ListKind.the-variants.Cache, ListKind.the-variants.Fast, ListKind.the-variants.Bin}
 
@@ -29,10 +30,13 @@ tilesFrom (suc n) w o = elim (ltb (o + sizeAt w o) (8 * length w)) [ true ↦ ti
 abbrev pub up : ℕ → ℕ
 up v = elim (eqb v none32) [ true ↦ none64 | false ↦ v ]
 
--- the chunks from c on along the forward links
+-- the chunks from c on along the forward links, which are stored by edition d; those of a bin are plain
+abbrev pub chunksBy : ℕ → ℕ → List ℕ → ℕ → List ℕ
+chunksBy d zero w c = []
+chunksBy d (suc n) w c = elim (eqb c none64) [ true ↦ [] | false ↦ c ∷ chunksBy d n w (stored d c (getD w (fwdWord c) 0)) ]
+
 abbrev pub chunksFrom : ℕ → List ℕ → ℕ → List ℕ
-chunksFrom zero w c = []
-chunksFrom (suc n) w c = elim (eqb c none64) [ true ↦ [] | false ↦ c ∷ chunksFrom n w (getD w (fwdWord c) 0) ]
+chunksFrom n w c = chunksBy plain n w c
 
 -- the lists in the audit's order, 0 to 199: 64 cache lists, 10 fast lists, bins 1 to 126
 abbrev pub kindAt : ℕ → ListKind
@@ -43,8 +47,17 @@ headWord (Cache k) = cacheHead k
 headWord (Fast k) = fastHead k
 headWord (Bin j) = binFirst j
 
+-- the record's edition, and how a list's links are stored by it
+abbrev pub editionIn : List ℕ → ℕ
+editionIn r = getD r editionWord 0
+
+abbrev pub linksBy : ListKind → ℕ → ℕ
+linksBy (Cache k) d = d
+linksBy (Fast k) d = d
+linksBy (Bin j) d = plain
+
 unfoldable pub listAt : List ℕ → List ℕ → ℕ → List ℕ
-listAt w r i = chunksFrom (length w) w (up (getD r (headWord (kindAt i)) 0))
+listAt w r i = chunksBy (linksBy (kindAt i) (editionIn r)) (length w) w (up (getD r (headWord (kindAt i)) 0))
 
 unfoldable pub tilesOf : List ℕ → List Tile
 tilesOf w = tilesFrom (length w) w 0
@@ -67,4 +80,5 @@ view w r = record {
   bins = [] ∷ binsOf w r;
   remainder = getD r remainderWord 0;
   key = keyIn r;
+  edition = editionIn r;
 }

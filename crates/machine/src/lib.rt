@@ -20,13 +20,14 @@ pub enum Audited {
     Shape,
 }
 
-// Why a call is refused, in the order in which it is tested: document 01's numbers 1 to 5.
+// Why a call is refused, in the order in which it is tested: document 01's numbers 1 to 5, and document 02's 12 of open.
 pub enum Refusal {
     Shape,
     Request,
     Unsound,
     NotLive,
     NoRoom,
+    Edition,
 }
 
 // What open, grant, release, resize, emptying and joining answer. A grant gives a mem offset and the usable bytes from there on.
@@ -87,6 +88,7 @@ fn refusal_no(x: Refusal) -> u32
         Refusal::Unsound => 3,
         Refusal::NotLive => 4,
         Refusal::NoRoom => 5,
+        Refusal::Edition => 12,
     }
 }
 

@@ -45,7 +45,7 @@ runBytes (l ∷ ls) a r = goOn (exampleCall l a r) (λ b s. runBytes ls b s)
 -- opened with a key of 99 on an arena of n bytes, all equal to x, and a record of bytes x
 unfoldable pub scriptBytes : ℕ → ℕ → List Line → Printed
 unfolding number numberFrom words digits bytes arenaWords need usable cacheOf fastOf binOf largeBin recordOf absorb joinNext putDown join releasePast release drain drains consolidate emptying joining step1 moveFast step2 takeLast moveLasts step3 step4 split sortIn splitLone keep turnAt turn swept sweep step5 carve step8 step6 step7 step9 pass again from4 seek grant nextP finish resize listAt tilesOf stacksOf binsOf tileFault goodFrom listFault flagFault auditBy auditCall closedRecord openCall grantCall releaseCall jobCall resizeCall
-scriptBytes x n ls = goOn (openCall (replicate n x) (replicate 1580 x) 99) (λ b s. runBytes ls b s)
+scriptBytes x n ls = goOn (openCall (replicate n x) (replicate 1584 x) 99 1) (λ b s. runBytes ls b s)
 
 abbrev pub outOf : Printed → List ℕ
 outOf (printed out a r) = out

@@ -15,8 +15,10 @@ use Rattle.sizes.specs.Layout.{fwdWord}
 use Rattle.machine.specs.Lists.{hd, lst, tl, some?, cnt}
 use Rattle.machine.specs.Count.{cnt-here, cnt-le-all, pigeons}
 use Rattle.machine.specs.Heap.{Heap, stack, bin, starts}
-use Rattle.machine.specs.View.{up, chunksFrom}
-use Rattle.sound.specs.Relation.{all, MemBy, Shape, Loose, chain}
+use Rattle.machine.specs.View.{up, chunksBy}
+use Rattle.machine.specs.Mixing.{stored}
+use Rattle.machine.specs.MixingLaws.{stored-twice}
+use Rattle.sound.specs.Relation.{all, MemBy, Shape, Loose, chainBy}
 use Rattle.sound.specs.Tiles.{starts-length}
 use Rattle.sound.specs.Frames.{Starts, starts-all, end-all, Grid, grid, in-starts}
 use Rattle.sound.specs.Lists.{lst-in}
@@ -86,26 +88,26 @@ pub lst-narrow : (w l : List ℕ) → Chunks w l → lst none32 l < 2 ^ 32
 lst-narrow w [] k = omega arith
 lst-narrow w (x ∷ l) k = omega (arith, k (lst x l) (lst-in x l) .small)
 
--- ---- the head of a list that has one
-pub record Head (w l : List ℕ) : Type 0 where
+-- ---- the head of a list that has one, whose links are stored by edition d
+pub record Head (d : ℕ) (w l : List ℕ) : Type 0 where
   pub here : Chunk w (hd none32 l)
   pub same : hd none64 l ≡ hd none32 l
-  pub next : down (getD w (fwdWord (hd none32 l)) 0) ≡ hd none32 (tl l)
-  pub narrow : down (getD w (fwdWord (hd none32 l)) 0) < 2 ^ 32
+  pub next : down (stored d (hd none32 l) (getD w (fwdWord (hd none32 l)) 0)) ≡ hd none32 (tl l)
+  pub narrow : down (stored d (hd none32 l) (getD w (fwdWord (hd none32 l)) 0)) < 2 ^ 32
   pub more : length l ≡ suc (length (tl l))
 
-pub head : (w l : List ℕ) → some? l ≡ true → Chunks w l → chain w l → Head w l
-head w [] e k c = let z : _≡_ {A = ℕ} 0 1 = cc in absurd (omega arith)
-head w (x ∷ l) e k c =
+pub head : (d : ℕ) (w l : List ℕ) → some? l ≡ true → Chunks w l → chainBy d w l → Head d w l
+head d w [] e k c = let z : _≡_ {A = ℕ} 0 1 = cc in absurd (omega arith)
+head d w (x ∷ l) e k c =
     let t : Chunks w l = λ y i. k y (omega arith) in
-    let d : down (getD w (fwdWord x) 0) ≡ hd none32 l = ap down (c .0) ∙ down-hd w l t in
-    record { here = k x (cnt-here x l); same = refl; next = d; narrow = rw d (hd-narrow w l t); more = refl }
+    let n : down (stored d x (getD w (fwdWord x) 0)) ≡ hd none32 l = ap (λ (y : ℕ). down (stored d x y)) (c .0) ∙ ap down (stored-twice d x (hd none64 l)) ∙ down-hd w l t in
+    record { here = k x (cnt-here x l); same = refl; next = n; narrow = rw n (hd-narrow w l t); more = refl }
 
 -- ---- along the links the walk finds the list, if it may go that far
-pub walk-list : (n : ℕ) (w l : List ℕ) → length l ≤ n → Chunks w l → chain w l → chunksFrom n w (hd none64 l) ≡ l
-walk-list zero w [] f k c = refl
-walk-list zero w (x ∷ l) f k c = absurd (not-suc-le-zero f)
-walk-list (suc n) w [] f k c = refl
-walk-list (suc n) w (x ∷ l) f k c =
-    rw (ne-eqb x none64 (λ e. omega (arith, k x (cnt-here x l) .small)), chunksFrom)
-    (ap (λ (m : List ℕ). x ∷ m) (ap (chunksFrom n w) (c .0) ∙ walk-list n w l (le-of-suc-le-suc f) (λ y i. k y (omega arith)) (c .1)))
+pub walk-list : (d n : ℕ) (w l : List ℕ) → length l ≤ n → Chunks w l → chainBy d w l → chunksBy d n w (hd none64 l) ≡ l
+walk-list d zero w [] f k c = refl
+walk-list d zero w (x ∷ l) f k c = absurd (not-suc-le-zero f)
+walk-list d (suc n) w [] f k c = refl
+walk-list d (suc n) w (x ∷ l) f k c =
+    rw (ne-eqb x none64 (λ e. omega (arith, k x (cnt-here x l) .small)), chunksBy)
+    (ap (λ (m : List ℕ). x ∷ m) (ap (λ (y : ℕ). chunksBy d n w (stored d x y)) (c .0) ∙ ap (chunksBy d n w) (stored-twice d x (hd none64 l)) ∙ walk-list d n w l (le-of-suc-le-suc f) (λ y i. k y (omega arith)) (c .1)))

@@ -9,38 +9,38 @@ use native.Mathlib.Omega.{arith}
 use lib.Dec.{eqb, ltb}
 use lib.ListN.{length, getD}
 use lib.Seq.{getD-set-same}
-use borrow.Author.Tests.{le-ltb, lt-ltb, eq-eqb, ne-eqb}
+use borrow.Author.Tests.{le-ltb, lt-ltb, ne-eqb}
 use Rattle.le.specs.Arena.{arenaWords}
 use Rattle.le.specs.ArenaLaws.{length-arenaWords}
-use Rattle.sizes.specs.Limits.{none64, none32, unsorted, large, firstLarge}
+use Rattle.sizes.specs.Limits.{none64, unsorted, large, firstLarge}
 use Rattle.sizes.specs.Sizes.{binOf}
-use Rattle.sizes.specs.BinLaws.{binOf-wide, binOf-large, binOf-bounds}
+use Rattle.sizes.specs.BinLaws.{binOf-wide, binOf-large}
 use Rattle.sizes.specs.Layout.{binFirst}
-use Rattle.machine.specs.Lists.{hd, pre, post, ind, cnt}
-use Rattle.machine.specs.Count.{eq?, ind-same, cnt-append, cnt-le-all}
-use Rattle.machine.specs.Heap.{Heap, bin, withBin, starts, sizeOf, recordOf}
+use Rattle.machine.specs.Lists.{hd, pre, post, cnt}
+use Rattle.machine.specs.Count.{ind-same, cnt-append, cnt-le-all}
+use Rattle.machine.specs.Heap.{Heap, bin, withBin, starts, sizeOf}
 use Rattle.machine.specs.Writes.{Write, apply}
 use Rattle.machine.specs.Skips.{ring, putSkips, skips, skipsIn, skipsOut}
 use Rattle.machine.specs.Primitives.{linksIn, linkIn, linksOut, unlink}
 use Rattle.machine.specs.View.{sizeAt, up}
-use Rattle.sound.specs.Relation.{stand, MemBy, Shape, Loose}
+use Rattle.sound.specs.Relation.{stand, MemBy, Mem, Loose}
 use Rattle.sound.specs.Tiles.{lt-or-le, starts-once}
-use Rattle.sound.specs.Frames.{set-cases, apply-append}
+use Rattle.sound.specs.Frames.{apply-append}
 use Rattle.sound.specs.Apart.{chunks-apart, tiled-tiles}
 use Rattle.sound.specs.Edits.{size-32}
 use Rattle.sound.specs.Rings.{ring-cong, ring-w, stand-same, chunk-inside}
-use Rattle.sound.specs.Lists.{links-chain, in-range, cut-cnt, unlink-shape, unlinked-mem, unlink-mem, link-shape, linked-mem}
+use Rattle.sound.specs.Lists.{links-chain, in-range, unlink-shape, unlinked-mem, unlink-mem, link-shape, linked-mem}
 use Rattle.sound.specs.RecordOf.{record-length, record-binFirst}
-use Rattle.skip_links.specs.Walk.{Walk, LargeWalk, LargeWalked}
+use Rattle.skip_links.specs.Walk.{Walk, LargeWalk}
 use Rattle.primitives.specs.Follow.{Ok, Gave}
-use Rattle.primitives.specs.Places.{Gap, InBin, Home, home-in}
-use Rattle.primitives.specs.Linked.{comes, leaves, Linked, HasLinks, Fits}
-use Rattle.primitives.specs.Chunks.{Chunks, bin-chunk, up-hd}
+use Rattle.primitives.specs.Places.{Gap, Home}
+use Rattle.primitives.specs.Linked.{comes, leaves, Linked, Fits}
+use Rattle.primitives.specs.Chunks.{bin-chunk, up-hd}
 use Rattle.primitives.specs.Sizes.{chunk-says}
 
 -- ---- a list of a heap, as words and record have it
 module _ (h : Heap) (w r : List ℕ) (o : Linked h w r) where
-  pub linked-length : length r ≡ 395
+  pub linked-length : length r ≡ 396
   linked-length = ap length (o .rec) ∙ record-length h (o .shape .stacked74) (o .shape .binned127)
 
   in-heap : (j x : ℕ) → 1 ≤ cnt x (bin h j) → 1 ≤ cnt x (starts h)
@@ -195,7 +195,7 @@ module _ (h : Heap) (w r : List ℕ) (o : Ok h w r) where
       stays : j ≡ unsorted → Gave (Unit {0}) (unlink j c h) tt w v′ q
       stays ej =
           let G : Gave (Unit {0}) (unlink j c h) tt w v q = unlink-whole j c (m .here) g (out-small j (λ x. sizeOf h x) ls v (omega (arith, ej))) in
-          let M = subst (MemBy 3 g′) (sym (G .bytes)) (unlink-mem h w j c (o .shape) (o .mem) (m .here)) in
+          let M = subst (Mem g′) (sym (G .bytes)) (unlink-mem h w j c (o .shape) (o .mem) (m .here)) in
           let s = unlink-shape h j c (o .shape) (m .here) in
           let st : stand (ring (λ x. sizeOf h x) (bin g′ i)) v = rw (le-ltb i firstLarge li, skips) at (M .skipped (omega arith) i) in
           let same : v′ ≡ v = e ∙ stand-same (λ x. sizeOf h x) (bin g′ i) (ring (λ x. sizeOf h x) (bin g′ i)) v (ring-w (λ x. sizeOf h x) (bin g′ i) (λ x n. s .roomy i x li n)) st in

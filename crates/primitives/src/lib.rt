@@ -1,6 +1,7 @@
 // The machine's primitives on lists and flags as code, on the arena's bytes and the record's words.
 use chunk_fields::Link;
 use chunk_fields::back_at;
+use chunk_fields::edition_in;
 use chunk_fields::fwd_at;
 use chunk_fields::key_in;
 use chunk_fields::link_of;
@@ -9,7 +10,9 @@ use chunk_fields::set_fwd;
 use chunk_fields::set_key;
 use chunk_fields::set_note;
 use chunk_fields::set_size;
+use chunk_fields::set_stack_link;
 use chunk_fields::size_at;
+use chunk_fields::stack_link_at;
 use chunk_fields::word_of;
 use sizes::CACHE_COUNTS;
 use sizes::CACHE_HEADS;
@@ -53,7 +56,8 @@ pub fn push_cache(a: &mut [u8], r: &mut [u32], k: usize, c: Chunk)
 {
     let x = r[CACHE_HEADS + k];
     let n = r[CACHE_COUNTS + k];
-    set_fwd(a, c, link_of(x));
+    let d = edition_in(r);
+    set_stack_link(a, d, c, link_of(x));
     set_key(a, c, key_in(r));
     r[CACHE_HEADS + k] = c.0 as u32;
     r[CACHE_COUNTS + k] = n + 1;
@@ -61,7 +65,7 @@ pub fn push_cache(a: &mut [u8], r: &mut [u32], k: usize, c: Chunk)
 
 // Whether the cache takes one more chunk of size z: up to 1,040, and its list has fewer than 7.
 pub fn cache_takes(r: &[u32], z: u64) -> bool
-    requires { ⌜ (32 ≤ z) × (length (now r) ≡ 395) ⌝ }
+    requires { ⌜ (32 ≤ z) × (length (now r) ≡ 396) ⌝ }
     ensures { λ t. ⌜ t ≡ cacheTakes (getD (now (r .entry)) (cacheCount (cacheOf z)) 0) z ⌝ }
 {
     if MOST_CACHED < z {
@@ -77,7 +81,8 @@ pub fn take_cache(a: &mut [u8], r: &mut [u32], k: usize) -> Chunk
 {
     let c = Chunk(r[CACHE_HEADS + k] as u64);
     let n = r[CACHE_COUNTS + k];
-    r[CACHE_HEADS + k] = word_of(fwd_at(a, c));
+    let d = edition_in(r);
+    r[CACHE_HEADS + k] = word_of(stack_link_at(a, d, c));
     r[CACHE_COUNTS + k] = n - 1;
     set_key(a, c, 0);
     c
@@ -89,7 +94,8 @@ pub fn push_fast(a: &mut [u8], r: &mut [u32], k: usize, c: Chunk)
     ensures { λ _. ⌜ Does (Unit {0}) (λ h. Loose h (c .0)) (push (fastAt k) (c .0)) (arenaWords (now (a .entry))) (now (r .entry)) tt (arenaWords (now (a .exit))) (now (r .exit)) ⌝ }
 {
     let x = r[FAST_HEADS + k];
-    set_fwd(a, c, link_of(x));
+    let d = edition_in(r);
+    set_stack_link(a, d, c, link_of(x));
     r[FAST_HEADS + k] = c.0 as u32;
 }
 
@@ -98,13 +104,14 @@ pub fn take_fast(a: &[u8], r: &mut [u32], k: usize) -> Chunk
     ensures { λ c. ⌜ Does Got (λ h. some? (stack h (fastAt k)) ≡ true) (pop (fastAt k)) (arenaWords (now (a .entry))) (now (r .entry)) (At (c .0)) (arenaWords (now (a .entry))) (now (r .exit)) ⌝ }
 {
     let c = Chunk(r[FAST_HEADS + k] as u64);
-    r[FAST_HEADS + k] = word_of(fwd_at(a, c));
+    let d = edition_in(r);
+    r[FAST_HEADS + k] = word_of(stack_link_at(a, d, c));
     c
 }
 
 // The forward link of p, or the first of bin j where p is none, becomes x.
 fn link_fwd(a: &mut [u8], r: &mut [u32], j: usize, p: Link, x: Link)
-    requires { ⌜ (j ≤ 126) × (length (now r) ≡ 395) × Leads (length (now a)) (p .0) × (down (x .0) < 2 ^ 32) ⌝ }
+    requires { ⌜ (j ≤ 126) × (length (now r) ≡ 396) × Leads (length (now a)) (p .0) × (down (x .0) < 2 ^ 32) ⌝ }
     ensures { λ _. ⌜ (arenaWords (now (a .exit)) ≡ linkFwd (arenaWords (now (a .entry))) (p .0) (x .0)) × (now (r .exit) ≡ linkEnd (now (r .entry)) (binFirst j) (p .0) (x .0)) ⌝ }
 {
     if p.0 == NONE64 {
@@ -117,7 +124,7 @@ fn link_fwd(a: &mut [u8], r: &mut [u32], j: usize, p: Link, x: Link)
 
 // The back link of n, or the last of bin j where n is none, becomes x.
 fn link_back(a: &mut [u8], r: &mut [u32], j: usize, n: Link, x: Link)
-    requires { ⌜ (j ≤ 126) × (length (now r) ≡ 395) × Leads (length (now a)) (n .0) × (down (x .0) < 2 ^ 32) ⌝ }
+    requires { ⌜ (j ≤ 126) × (length (now r) ≡ 396) × Leads (length (now a)) (n .0) × (down (x .0) < 2 ^ 32) ⌝ }
     ensures { λ _. ⌜ (arenaWords (now (a .exit)) ≡ linkBack (arenaWords (now (a .entry))) (n .0) (x .0)) × (now (r .exit) ≡ linkEnd (now (r .entry)) (binLast j) (n .0) (x .0)) ⌝ }
 {
     if n.0 == NONE64 {

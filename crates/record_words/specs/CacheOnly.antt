@@ -23,15 +23,15 @@ Changes (CacheList k) q p = (k < cacheLists) × CacheOnly k q p
 Changes Any q p = Unit {0}
 
 -- the record's bytes when these two words were written: r before, v after
-pub cache-only-bytes : (k : ℕ) (r p v : List ℕ) → length r ≡ 1580 → k < 64 → CacheOnly k (wordsOf r) p
+pub cache-only-bytes : (k : ℕ) (r p v : List ℕ) → length r ≡ 1584 → k < 64 → CacheOnly k (wordsOf r) p
     → getD p (cacheHead k) 0 < 2 ^ 32 → getD p (cacheCount k) 0 < 2 ^ 32 → ((i : ℕ) → getD v i 0 < 256)
     → v ≡ put 4 (put 4 r (4 * cacheHead k) (getD p (cacheHead k) 0)) (4 * cacheCount k) (getD p (cacheCount k) 0) → v ≡ bytes 4 p
 cache-only-bytes k r p v n hk o x y small e =
     let u : List ℕ = put 4 r (4 * cacheHead k) (getD p (cacheHead k) 0) in
-    let m : length u ≡ 1580 = length-put 4 r (4 * cacheHead k) (getD p (cacheHead k) 0) ∙ n in
-    let l : length v ≡ 1580 = ap length e ∙ length-put 4 u (4 * cacheCount k) (getD p (cacheCount k) 0) ∙ m in
-    sym (bytes-words 4 395 v l small)
+    let m : length u ≡ 1584 = length-put 4 r (4 * cacheHead k) (getD p (cacheHead k) 0) ∙ n in
+    let l : length v ≡ 1584 = ap length e ∙ length-put 4 u (4 * cacheCount k) (getD p (cacheCount k) 0) ∙ m in
+    sym (bytes-words 4 396 v l small)
     ∙ ap (bytes 4) (ap wordsOf e
-    ∙ words-put 4 395 u (cacheCount k) (getD p (cacheCount k) 0) (omega arith) (omega (arith, m)) y
-    ∙ ap (λ (q : List ℕ). set q (cacheCount k) (getD p (cacheCount k) 0)) (words-put 4 395 r (cacheHead k) (getD p (cacheHead k) 0) (omega arith) (omega (arith, n)) x)
+    ∙ words-put 4 396 u (cacheCount k) (getD p (cacheCount k) 0) (omega arith) (omega (arith, m)) y
+    ∙ ap (λ (q : List ℕ). set q (cacheCount k) (getD p (cacheCount k) 0)) (words-put 4 396 r (cacheHead k) (getD p (cacheHead k) 0) (omega arith) (omega (arith, n)) x)
     ∙ sym o)

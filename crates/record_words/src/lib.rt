@@ -10,8 +10,8 @@ use sizes::CACHE_HEADS;
 use sizes::RECORD_WORDS;
 
 pub fn read_words(b: &[u8], r: &mut [u32])
-    requires { ⌜ (length (now b) ≡ 1580) × (length (now r) ≡ 395) ⌝ }
-    ensures { λ _. ⌜ now (r .exit) ≡ words 4 395 (now (b .entry)) ⌝ }
+    requires { ⌜ (length (now b) ≡ 1584) × (length (now r) ≡ 396) ⌝ }
+    ensures { λ _. ⌜ now (r .exit) ≡ words 4 396 (now (b .entry)) ⌝ }
 {
     let mut i: usize = 0;
     while i < RECORD_WORDS {
@@ -21,7 +21,7 @@ pub fn read_words(b: &[u8], r: &mut [u32])
 }
 
 pub fn write_words(b: &mut [u8], r: &[u32])
-    requires { ⌜ (length (now b) ≡ 1580) × (length (now r) ≡ 395) ⌝ }
+    requires { ⌜ (length (now b) ≡ 1584) × (length (now r) ≡ 396) ⌝ }
     ensures { λ _. ⌜ now (b .exit) ≡ bytes 4 (now (r .entry)) ⌝ }
 {
     let mut i: usize = 0;
@@ -39,7 +39,7 @@ pub enum Changed {
 
 // The two words of cache list k go back: nothing else of the record changed.
 fn put_cache(control: &mut [u8], r: &[u32], k: usize)
-    requires { ⌜ (length (now control) ≡ 1580) × (length (now r) ≡ 395) × (k < 64) × CacheOnly k (wordsOf (now control)) (now r) ⌝ }
+    requires { ⌜ (length (now control) ≡ 1584) × (length (now r) ≡ 396) × (k < 64) × CacheOnly k (wordsOf (now control)) (now r) ⌝ }
     ensures { λ _. ⌜ now (control .exit) ≡ bytes 4 (now (r .entry)) ⌝ }
 {
     let head = CACHE_HEADS + k;
@@ -50,7 +50,7 @@ fn put_cache(control: &mut [u8], r: &[u32], k: usize)
 
 // The words that a step changed go back.
 pub fn write_changed(control: &mut [u8], r: &[u32], changed: Changed)
-    requires { ⌜ (length (now control) ≡ 1580) × (length (now r) ≡ 395) × Changes changed (wordsOf (now control)) (now r) ⌝ }
+    requires { ⌜ (length (now control) ≡ 1584) × (length (now r) ≡ 396) × Changes changed (wordsOf (now control)) (now r) ⌝ }
     ensures { λ _. ⌜ now (control .exit) ≡ bytes 4 (now (r .entry)) ⌝ }
 {
     match changed {

@@ -36,7 +36,7 @@ pub record Ahead (h : Heap) (c z : ℕ) : Type 0 where
 pub record Nearby (m : ℕ) (w r : List ℕ) (c z : ℕ) : Type 0 where
   pub here : Inside m c
   pub after : Inside m (c + z)
-  pub long : length r ≡ 395
+  pub long : length r ≡ 396
   pub within : c + z ≤ getD r lengthWord 0
   pub most : getD r lengthWord 0 ≤ 262144
   pub beyond : (c + z ≡ getD r topWord 0 → ⊥) → (y : ℕ) → y ≡ sizeAt w (c + z) → Inside m (c + z + y)

@@ -22,7 +22,7 @@ ghost use Rattle.resize.specs.States.{Live, topReaches, behindReaches};
 
 // Whether the top is next to c, of size z, and both together reach b + 32.
 fn top_reaches(r: &[u32], c: Chunk, z: u64, b: u64) -> bool
-    requires { ⌜ (length (now r) ≡ 395) × (c .0 + z ≤ 262144) × (b ≤ 262160) × (getD (now r) topWord 0 ≤ getD (now r) lengthWord 0) ⌝ }
+    requires { ⌜ (length (now r) ≡ 396) × (c .0 + z ≤ 262144) × (b ≤ 262160) × (getD (now r) topWord 0 ≤ getD (now r) lengthWord 0) ⌝ }
     ensures { λ t. ⌜ t ≡ topReaches (now (r .entry)) (c .0) z b ⌝ }
 {
     let top = r[TOP_WORD] as u64;

@@ -27,7 +27,7 @@ one-cleared l i h e = rw add-one (take-suc-set l i 0 h) ∙ ap (λ (p : List ℕ
 alike : {a r t o a′ r′ o′ : List ℕ} → a ≡ a′ → r ≡ r′ → t ≡ [] → o ≡ o′ → step (run a r t 0 0 false) o ≡ step (run a′ r′ [] 0 0 false) o′
 alike p q s u = rw (p, q, s, u)
 
-pub begun : (m n : ℕ) {a r t o : List ℕ} → m ≡ 49152 → n ≡ 1580 → a ≡ replicate m 0 → r ≡ replicate n 0 → t ≡ [] → o ≡ header → step (run a r t 0 0 false) o ≡ step beforeAll header
+pub begun : (m n : ℕ) {a r t o : List ℕ} → m ≡ 49152 → n ≡ 1584 → a ≡ replicate m 0 → r ≡ replicate n 0 → t ≡ [] → o ≡ header → step (run a r t 0 0 false) o ≡ step beforeAll header
 begun m n i j p q s u = alike (p ∙ ap (λ (k : ℕ). replicate k 0) i) (q ∙ ap (λ (k : ℕ). replicate k 0) j) s u
 
 -- ---- S: the emptying left b and q and answered x

@@ -6,6 +6,7 @@ use Prim.Native.Nat.{ℕ, _+_, _≤_}
 use lib.Dec.{eqb, ltb}
 use lib.ListN.{length, take, drop, replicate}
 use Rattle.le.specs.Number.{number}
+use Rattle.sizes.specs.Limits.{plain}
 use Rattle.machine.specs.Calls.{After, after, openCall, grantCall, releaseCall, resizeCall, emptyingCall, joinedAfter}
 use Rattle.machine.specs.declared.Answer.the-variants.{Done}
 use Rattle.script.specs.Grammar.{lineOf, kept, keptBytes}
@@ -34,11 +35,11 @@ andOn (step s o) f = behind o (f s)
 
 -- before the first line nothing is open; lent bytes and record are zeros
 abbrev pub beforeAll : Run
-beforeAll = run (replicate 49152 0) (replicate 1580 0) [] 0 0 false
+beforeAll = run (replicate 49152 0) (replicate 1584 0) [] 0 0 false
 
--- ---- the call of a line
+-- ---- the call of a line; an open is with key 0, in edition 1
 abbrev pub lineCall : List ℕ → List ℕ → Line → After
-lineCall a r (Open n) = openCall a r 0
+lineCall a r (Open n) = openCall a r 0 plain
 lineCall a r (Grant n) = grantCall a r n
 lineCall a r (Release m) = releaseCall a r m
 lineCall a r (Resize m n) = resizeCall a r m n
@@ -110,7 +111,7 @@ runOf a r s = run a r (kept (s .text)) (s .lines) (s .opened) (s .ended)
 -- ---- what the steps ask of the lent bytes: room for the longest arena, and a record
 pub record Buffers (a r : List ℕ) : Type 0 where
   pub arenaRoom : length a ≡ 49152
-  pub recordRoom : length r ≡ 1580
+  pub recordRoom : length r ≡ 1584
 
 -- a state whose arena fits, and that has printed at most so many bytes
 pub record Within (s : Log) (n : ℕ) : Type 0 where

@@ -8,6 +8,7 @@ ghost use Rattle.script_run.specs.Run.{step, behind, beforeAll, lineCall
 use machine::Answer;
 use script::Line;
 use script::LineText;
+use sizes::PLAIN;
 
 // A run between two bytes: the line that is being read, how many lines were run, how long the opened arena is, whether the run has ended, and how many
 // bytes it has printed: so many stand in the output buffer, and a step prints behind them.
@@ -67,13 +68,13 @@ fn empty_and_join(arena: &mut [u8], control: &mut [u8]) -> Answer
     }
 }
 
-// The call of a line, on the arena that it opens or that was opened.
+// The call of a line, on the arena that it opens, with key 0 in edition 1, or that was opened.
 fn call(arena: &mut [u8], control: &mut [u8], line: Line) -> Answer
     ensures { λ x. ⌜ after (now (arena .exit)) (now (control .exit)) x ≡ lineCall (now (arena .entry)) (now (control .entry)) line ⌝ }
 {
     match line {
         Line::Open(_) => {
-            return calls::open(arena, control, 0);
+            return calls::open(arena, control, 0, PLAIN);
         }
         Line::Grant(n) => {
             return calls::grant(arena, control, n as u64);

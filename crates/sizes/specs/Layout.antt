@@ -2,7 +2,7 @@
 use Prim.Native.Nat.{ℕ, _+_, _*_, _/_}
 
 -- ---- the record's words: length, top, last remainder; 64 cache heads, 64 counts; 10 fast heads; first and last of bins 1 to 126; the key's
--- low and high half
+-- low and high half; the edition
 abbrev pub lengthWord : ℕ
 lengthWord = 0
 
@@ -32,6 +32,9 @@ keyLow = 393
 
 abbrev pub keyHigh : ℕ
 keyHigh = 394
+
+abbrev pub editionWord : ℕ
+editionWord = 395
 
 -- ---- the arena's 8-byte words: the chunk at c has its previous size at c, its size word at c + 8, its links at c + 16 and c + 24;
 -- in a cache list the key stands at c + 24, where a bin has the back link; a chunk of 1,024 bytes or more has skip links at c + 32 and c + 40

@@ -52,14 +52,21 @@ lastBin = 126
 
 -- the record's words, and its bytes
 abbrev pub recordWords : ℕ
-recordWords = 395
+recordWords = 396
 
 abbrev pub recordBytes : ℕ
-recordBytes = 1580
+recordBytes = 1584
 
 -- the newest version of the rules, and of an image
 abbrev pub newest : ℕ
-newest = 3
+newest = 4
+
+-- the editions: how the forward links of cache and fast lists are stored, as they are or mixed
+abbrev pub plain : ℕ
+plain = 1
+
+abbrev pub mixed : ℕ
+mixed = 2
 
 -- no chunk: as a link in the arena, and as a word of the record
 abbrev pub none64 : ℕ

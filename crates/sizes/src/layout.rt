@@ -22,6 +22,8 @@ pub const KEY_LOW: usize = 393;
 
 pub const KEY_HIGH: usize = 394;
 
+pub const EDITION: usize = 395;
+
 // The word of the first chunk of bin j, and of its last.
 pub fn bin_first(j: usize) -> usize
     requires { ⌜ j ≤ 126 ⌝ }

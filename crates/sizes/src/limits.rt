@@ -43,12 +43,17 @@ pub const BINS_FROM: u32 = 74;
 pub const ALL_LISTS: u32 = 200;
 
 // The record's words, and its bytes.
-pub const RECORD_WORDS: usize = 395;
+pub const RECORD_WORDS: usize = 396;
 
-pub const RECORD_BYTES: usize = 1580;
+pub const RECORD_BYTES: usize = 1584;
 
 // The newest version of the rules, and of an image.
-pub const NEWEST: u32 = 3;
+pub const NEWEST: u32 = 4;
+
+// The editions: how the forward links of cache and fast lists are stored, as they are or mixed.
+pub const PLAIN: u32 = 1;
+
+pub const MIXED: u32 = 2;
 
 // No chunk: as a link in the arena, and as a word of the record.
 pub const NONE64: u64 = 18446744073709551615;

@@ -13,7 +13,7 @@ use Rattle.sizes.specs.Limits.{none64}
 use Rattle.sizes.specs.Layout.{fwdWord}
 use Rattle.machine.specs.Lists.{hd, tl, cnt}
 use Rattle.machine.specs.Count.{eq?, ind-same, cnt-here, pigeons}
-use Rattle.machine.specs.View.{sizeAt, chunksFrom}
+use Rattle.machine.specs.View.{sizeAt, chunksBy, chunksFrom}
 use Rattle.sound.specs.Relation.{chain}
 use Rattle.sound.specs.Tiles.{zero-or}
 use Rattle.skip_links.specs.Walk.{Walk}
@@ -43,7 +43,7 @@ walk-list zero w [] f k c = refl
 walk-list zero w (x ∷ l) f k c = absurd (not-suc-le-zero f)
 walk-list (suc n) w [] f k c = refl
 walk-list (suc n) w (x ∷ l) f k c =
-    rw (ne-eqb x none64 (k x (cnt-here x l)), chunksFrom)
+    rw (ne-eqb x none64 (k x (cnt-here x l)), chunksBy)
     (ap (λ (m : List ℕ). x ∷ m) (ap (chunksFrom n w) (c .0) ∙ walk-list n w l (le-of-suc-le-suc f) (λ y i. k y (omega arith)) (c .1)))
 
 -- how many they are, by the words

@@ -237,7 +237,7 @@ remainder-good h c g =
     }
 
 pub remainder-mem : (h : Heap) (w : List ℕ) (c : ℕ) → Mem h w → Mem (withRemainder c h) w
-remainder-mem h w c m = record { long = m .long; words = m .words; chains = m .chains; blinks = m .blinks; keys = m .keys; key64 = m .key64; skipped = m .skipped }
+remainder-mem h w c m = record { long = m .long; words = m .words; chains = m .chains; blinks = m .blinks; keys = m .keys; key64 = m .key64; edited = m .edited; skipped = m .skipped }
 
 -- ---- n is cut off the top
 pub top-ends : (h : Heap) (w : List ℕ) (n : ℕ) → Good h → Mem h w → n % 16 ≡ 0 → 32 ≤ n → n + 32 ≤ topSize h

@@ -15,7 +15,7 @@ use Rattle.machine.specs.Count.{eq?, cnt-here, cnt-there, cnt-le-all}
 use Rattle.machine.specs.Heap.{Tile, tile, Heap, stack, bin, withTiles, withBin, endFrom, startsFrom, topOf, topSize, starts, sizeOf, total}
 use Rattle.machine.specs.Writes.{Write, who, field, value, put, apply}
 use Rattle.machine.specs.Skips.{skips}
-use Rattle.sound.specs.Relation.{all, tiled, tilesAt, chain, links, stand, MemBy, Mem, Shape}
+use Rattle.sound.specs.Relation.{all, tiled, tilesAt, chainBy, links, stand, MemBy, Mem, Shape}
 use Rattle.sound.specs.Tiles.{tiled-split, end-even, end-append, starts-append, Start, start, starts-once, gap, tiles-split, tiles-join, tiles-cong}
 
 -- two memories that agree at the i-th word of each chunk of l
@@ -25,9 +25,9 @@ Agree w v i l = (x : ℕ) → 1 ≤ cnt x l → getD v (x / 8 + i) 0 ≡ getD w 
 pub agree-tail : (w v : List ℕ) (i y : ℕ) (l : List ℕ) → Agree w v i (y ∷ l) → Agree w v i l
 agree-tail w v i y l a x m = a x (cnt-there x y l m)
 
-pub chain-cong : (w v l : List ℕ) → Agree w v 2 l → chain w l → chain v l
-chain-cong w v [] a c = tt
-chain-cong w v (x ∷ l) a c = (a x (cnt-here x l) ∙ c .0, chain-cong w v l (agree-tail w v 2 x l a) (c .1))
+pub chain-cong : (d : ℕ) (w v l : List ℕ) → Agree w v 2 l → chainBy d w l → chainBy d v l
+chain-cong d w v [] a c = tt
+chain-cong d w v (x ∷ l) a c = (a x (cnt-here x l) ∙ c .0, chain-cong d w v l (agree-tail w v 2 x l a) (c .1))
 
 pub links-cong : (w v : List ℕ) (p : ℕ) (l : List ℕ) (n : ℕ) → Agree w v 2 l → Agree w v 3 l → links w p l n → links v p l n
 links-cong w v p [] n a b c = tt
@@ -173,7 +173,7 @@ rebin h w j l L ws s m hj sub lw ds db own =
           (agree S (length w) g ws w 0 S (omega arith) (λ x k. k) (link-low S L S 0 ws sub (omega arith) lw))
           (agree S (length w) g ws w 1 S (omega arith) (λ x k. k) (link-low S L S 1 ws sub (omega arith) lw))
           (m .words);
-      chains = λ k. chain-cong w v (stack h k)
+      chains = λ k. chain-cong (h .edition) w v (stack h k)
           (ag 2 (stack h k) (omega arith) (λ x i. in-starts h x s (omega (arith, cnt-le-all x (h .stacks) k)))
           (λ x i. omega (arith, ds x i, cnt-le-all x (h .stacks) k)))
           (m .chains k);
@@ -186,6 +186,7 @@ rebin h w j l L ws s m hj sub lw ds db own =
       keys = λ z k x p i. ag 3 (stack h k) (omega arith) (λ y n. in-starts h y s (omega (arith, cnt-le-all y (h .stacks) k)))
           (λ y n. omega (arith, ds y n, cnt-le-all y (h .stacks) k)) x i ∙ m .keys (omega arith) k x p i;
       key64 = m .key64;
+      edited = m .edited;
       skipped = λ z. absurd (omega (arith, z));
     }
 
@@ -202,13 +203,14 @@ retile h w ts ws m s hw k sk =
     record {
       long = rw apply-length (m .long);
       words = k;
-      chains = λ k. chain-cong w v (stack h k) (ag 2 (stack h k) (omega arith) (omega arith)
+      chains = λ k. chain-cong (h .edition) w v (stack h k) (ag 2 (stack h k) (omega arith) (omega arith)
           (λ x i. in-starts h′ x s (omega (arith, cnt-le-all x (h .stacks) k)))) (m .chains k);
       blinks = λ i.
           let sb : Sub (bin h i) S = λ x k. in-starts h′ x s (omega (arith, cnt-le-all x (h .bins) i)) in
           links-cong w v none64 (bin h i) none64 (ag 2 (bin h i) (omega arith) (omega arith) sb) (ag 3 (bin h i) (omega arith) (omega arith) sb) (m .blinks i);
       keys = λ z k x p i. ag 3 (stack h k) (omega arith) (omega arith) (λ y n. in-starts h′ y s (omega (arith, cnt-le-all y (h .stacks) k))) x i ∙ m .keys z k x p i;
       key64 = m .key64;
+      edited = m .edited;
       skipped = λ z. sk;
     }
 

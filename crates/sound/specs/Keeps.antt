@@ -1,10 +1,12 @@
 -- Every step keeps a sound heap and its words: one law for each step of release, emptying, joining, grant and resize, from any sound heap. What was shown of each step with
 -- its answer and its loose chunks is read off here. Assumes nothing.
 use mathlib.Core.Path.{_≡_, refl}
+use mathlib.Core.Logic.{_⊎_}
 use mathlib.Core.List.{List, [], _∷_}
 use mathlib.Core.Bool.{Bool, false}
 use Prim.Native.Nat.{ℕ, _+_, _*_, _%_, _≤_, _<_, _^_}
 use lib.ListN.{length}
+use Rattle.sizes.specs.Limits.{plain, mixed}
 use Rattle.machine.specs.Lists.{cnt}
 use Rattle.machine.specs.Heap.{Heap, stack, bin, sizeOf, opened, recordOf}
 use Rattle.machine.specs.Writes.{apply, Ran, heapOf, writes, size}
@@ -128,9 +130,9 @@ module _ (b : ℕ) (b16 : b % 16 ≡ 0) (b32 : 32 ≤ b) (h : Heap) (w : List �
 ends-sound : {A : Type 0} {r : Ran A} {w : List ℕ} → Ends r w Good → Sound (heapOf r) (apply (writes r) w) (recordOf (heapOf r))
 ends-sound e = record { good = e .now; mem = e .mem; rec = refl }
 
-pub opened-sound : (n q : ℕ) (w : List ℕ) → q < 2 ^ 64 → n % 16 ≡ 0 → 32 ≤ n → n ≤ 262144 → 8 * length w ≡ n
-    → Sound (opened n q) (apply (size 0 n 1 ∷ []) w) (recordOf (opened n q))
-opened-sound n q w b e l m z = let o = opened-ends n q w b e l m z in record { good = o .0; mem = o .1; rec = refl }
+pub opened-sound : (n q d : ℕ) (w : List ℕ) → q < 2 ^ 64 → (d ≡ plain) ⊎ (d ≡ mixed) → n % 16 ≡ 0 → 32 ≤ n → n ≤ 262144 → 8 * length w ≡ n
+    → Sound (opened n q d) (apply (size 0 n 1 ∷ []) w) (recordOf (opened n q d))
+opened-sound n q d w b ed e l m z = let o = opened-ends n q d w b ed e l m z in record { good = o .0; mem = o .1; rec = refl }
 
 module _ (h : Heap) (w r : List ℕ) (s : Sound h w r) where
   pub release-sound : (c : ℕ) → Loose h c → Sound (heapOf (release c h)) (apply (writes (release c h)) w) (recordOf (heapOf (release c h)))

@@ -13,6 +13,7 @@ use Rattle.machine.specs.Count.{eq?, ind-same, ind-other, cnt-append, cnt-here,
 use Rattle.machine.specs.Heap.{Tile, tile, Heap, stack, bin, withTiles, endFrom, startsFrom, topOf, starts, sizeOf, next, total}
 use Rattle.machine.specs.Writes.{Write, Ran, heapOf, writes, does, giving, more, _>>=_, size, note, link, key, ran}
 use Rattle.machine.specs.Primitives.{push, pop, pushCache, takeCache, linksIn, linkIn, linksOut, unlink, swallow, clearP, setP, setNote, cutAt, toTop, cutTop, setRemainder, widen, trimAt, growTop}
+use Rattle.machine.specs.Mixing.{stored}
 use Rattle.machine.specs.Skips.{skipsIn, skipsOut}
 use Rattle.sound.specs.Relation.{tiled, Shape, Loose}
 use Rattle.sound.specs.Tiles.{tiled-split, starts-append, starts-once}
@@ -118,7 +119,7 @@ pub push-moved : (h : Heap) (k c : ℕ) → Shape h → k < 74 → Loose h c →
 push-moved h k c s hk lc = record {
   count = λ x. omega (arith, cntAll-set x (h .stacks) k (c ∷ stack h k) (omega (arith, s .stacked74)));
   same = λ x lo z. refl;
-  spare = λ x lo z. spare-links h x (c ∷ []) (link c (hd none64 (stack h k)) ∷ []) s (omega arith)
+  spare = λ x lo z. spare-links h x (c ∷ []) (link c (stored (h .edition) c (hd none64 (stack h k))) ∷ []) s (omega arith)
       (λ y i. ⊎-elim (λ q. rw q (omega (arith, starts-all h c))) (λ q. absurd (omega (arith, ind-other y c q))) (eq? y c))
       (omega arith) (omega arith, cnt-here c [], tt);
   past = (omega arith, tt);
@@ -137,7 +138,7 @@ pub pushCache-moved : (h : Heap) (k c : ℕ) → Shape h → k < 74 → Loose h 
 pushCache-moved h k c s hk lc = record {
   count = push-moved h k c s hk lc .count;
   same = λ x lo z. refl;
-  spare = λ x lo z. spare-links h x (c ∷ []) (link c (hd none64 (stack h k)) ∷ key c (h .key) ∷ []) s (omega arith)
+  spare = λ x lo z. spare-links h x (c ∷ []) (link c (stored (h .edition) c (hd none64 (stack h k))) ∷ key c (h .key) ∷ []) s (omega arith)
       (λ y i. ⊎-elim (λ q. rw q (omega (arith, starts-all h c))) (λ q. absurd (omega (arith, ind-other y c q))) (eq? y c))
       (omega arith) (omega arith, cnt-here c [], (omega arith, cnt-here c [], tt));
   past = (omega arith, (omega arith, tt));

@@ -1,4 +1,4 @@
--- The record of a heap by its words: what stands at each of the 395 words of recordOf h, that a list with these words is recordOf h, and which words a change
+-- The record of a heap by its words: what stands at each of the 396 words of recordOf h, that a list with these words is recordOf h, and which words a change
 -- of the heap changes. Each part of the record is found behind the lengths of those before it. Assumes nothing.
 use mathlib.Core.Path.{_≡_, refl, sym, ap, _∙_, subst}
 use mathlib.Core.List.{List, [], _∷_, _++_, map}
@@ -9,7 +9,7 @@ use native.Mathlib.Omega.{arith}
 use lib.ListN.{length, getD, set, take, drop, length-append, length-drop, length-map, length-set, List·getD-append}
 use lib.Seq.{getD-take, getD-drop, getD-append-add, length-take-le, ext-getD, set-append-left, take-set-lt, take-set-le, drop-set-lt, drop-set-add, set-getD}
 use Rattle.sizes.specs.Limits.{none32, cacheLists}
-use Rattle.sizes.specs.Layout.{lengthWord, topWord, remainderWord, cacheHead, cacheCount, fastHead, binFirst, binLast, keyLow, keyHigh}
+use Rattle.sizes.specs.Layout.{lengthWord, topWord, remainderWord, cacheHead, cacheCount, fastHead, binFirst, binLast, keyLow, keyHigh, editionWord}
 use Rattle.machine.specs.Lists.{hd, lst}
 use Rattle.machine.specs.Heap.{Tile, Heap, cache, fast, fastAt, bin, withTiles, withStack, withBin, withRemainder, endFrom, topOf, ends, halves, recordOf}
 use Rattle.sound.specs.Relation.{Shape}
@@ -46,7 +46,7 @@ ends-last (l ∷ ls) (suc m) h = ap (λ (n : ℕ). getD (ends (l ∷ ls)) n 0) e
 
 -- ---- r has the words of h's record
 pub record Recorded (h : Heap) (r : List ℕ) : Type 0 where
-  pub all : length r ≡ 395
+  pub all : length r ≡ 396
   pub len : getD r lengthWord 0 ≡ h .len
   pub top : getD r topWord 0 ≡ topOf h
   pub remainder : getD r remainderWord 0 ≡ h .remainder
@@ -57,6 +57,7 @@ pub record Recorded (h : Heap) (r : List ℕ) : Type 0 where
   pub lasts : (j : ℕ) → 1 ≤ j → j ≤ 126 → getD r (binLast j) 0 ≡ lst none32 (bin h j)
   pub low : getD r keyLow 0 ≡ h .key % 2 ^ 32
   pub high : getD r keyHigh 0 ≡ h .key / 2 ^ 32
+  pub edition : getD r editionWord 0 ≡ h .edition
 
 -- the record's parts in a row
 parts : ℕ → ℕ → ℕ → List ℕ → List ℕ → List ℕ → List ℕ → List ℕ
@@ -113,7 +114,7 @@ module _ (h : Heap) (stacked : length (h .stacks) ≡ 74) (binned : length (h .b
   fasts = map (λ (l : List ℕ). hd none32 l) (drop cacheLists (h .stacks))
 
   tails : List ℕ
-  tails = ends (drop 1 (h .bins)) ++ halves (h .key)
+  tails = ends (drop 1 (h .bins)) ++ (halves (h .key) ++ h .edition ∷ [])
 
   as-parts : recordOf h ≡ parts (h .len) (topOf h) (h .remainder) heads counts fasts tails
   unfolding recordOf parts heads counts fasts tails
@@ -143,12 +144,12 @@ module _ (h : Heap) (stacked : length (h .stacks) ≡ 74) (binned : length (h .b
   ends252 : length (ends (drop 1 (h .bins))) ≡ 252
   ends252 = omega (arith, length-ends (drop 1 (h .bins)), rows)
 
-  tails254 : length tails ≡ 254
+  tails255 : length tails ≡ 255
   unfolding tails
-  tails254 = omega (arith, length-append (ends (drop 1 (h .bins))) (halves (h .key)), ends252)
+  tails255 = omega (arith, length-append (ends (drop 1 (h .bins))) (halves (h .key) ++ h .edition ∷ []), ends252)
 
-  pub record-length : length (recordOf h) ≡ 395
-  record-length = ap length as-parts ∙ omega (arith, length-parts (h .len) (topOf h) (h .remainder) heads counts fasts tails, heads64, counts64, fasts10, tails254)
+  pub record-length : length (recordOf h) ≡ 396
+  record-length = ap length as-parts ∙ omega (arith, length-parts (h .len) (topOf h) (h .remainder) heads counts fasts tails, heads64, counts64, fasts10, tails255)
 
   pub record-len : getD (recordOf h) lengthWord 0 ≡ h .len
   record-len = ap (λ (r : List ℕ). getD r lengthWord 0) as-parts ∙ parts-low (h .len) (topOf h) (h .remainder) heads counts fasts tails .0
@@ -194,7 +195,7 @@ module _ (h : Heap) (stacked : length (h .stacks) ≡ 74) (binned : length (h .b
       ap (λ (r : List ℕ). getD r (binFirst j) 0) as-parts
       ∙ ap (λ (x : ℕ). getD (parts (h .len) (topOf h) (h .remainder) heads counts fasts tails) x 0) n
       ∙ in-ends (h .len) (topOf h) (h .remainder) heads counts fasts tails (2 * (j - 1)) heads64 counts64 fasts10
-      ∙ List·getD-append (ends (drop 1 (h .bins))) (halves (h .key)) 0 (2 * (j - 1)) (omega (arith, ends252))
+      ∙ List·getD-append (ends (drop 1 (h .bins))) (halves (h .key) ++ h .edition ∷ []) 0 (2 * (j - 1)) (omega (arith, ends252))
       ∙ ends-first (drop 1 (h .bins)) (j - 1) (omega (arith, rows))
       ∙ ap (λ (l : List ℕ). hd none32 l) (row (j - 1) ∙ ap (λ (x : ℕ). bin h x) i)
 
@@ -206,19 +207,19 @@ module _ (h : Heap) (stacked : length (h .stacks) ≡ 74) (binned : length (h .b
       ap (λ (r : List ℕ). getD r (binLast j) 0) as-parts
       ∙ ap (λ (x : ℕ). getD (parts (h .len) (topOf h) (h .remainder) heads counts fasts tails) x 0) n
       ∙ in-ends (h .len) (topOf h) (h .remainder) heads counts fasts tails (suc (2 * (j - 1))) heads64 counts64 fasts10
-      ∙ List·getD-append (ends (drop 1 (h .bins))) (halves (h .key)) 0 (suc (2 * (j - 1))) (omega (arith, ends252))
+      ∙ List·getD-append (ends (drop 1 (h .bins))) (halves (h .key) ++ h .edition ∷ []) 0 (suc (2 * (j - 1))) (omega (arith, ends252))
       ∙ ends-last (drop 1 (h .bins)) (j - 1) (omega (arith, rows))
       ∙ ap (λ (l : List ℕ). lst none32 l) (row (j - 1) ∙ ap (λ (x : ℕ). bin h x) i)
 
-  -- the key's halves stand behind the bins' ends
-  in-key : (i : ℕ) → getD (recordOf h) (393 + i) 0 ≡ getD (halves (h .key)) i 0
+  -- the key's halves and the edition stand behind the bins' ends
+  in-key : (i : ℕ) → getD (recordOf h) (393 + i) 0 ≡ getD (halves (h .key) ++ h .edition ∷ []) i 0
   unfolding tails
   in-key i =
       let n : 393 + i ≡ 141 + (252 + i) = omega arith in
       ap (λ (r : List ℕ). getD r (393 + i) 0) as-parts
       ∙ ap (λ (x : ℕ). getD (parts (h .len) (topOf h) (h .remainder) heads counts fasts tails) x 0) n
       ∙ in-ends (h .len) (topOf h) (h .remainder) heads counts fasts tails (252 + i) heads64 counts64 fasts10
-      ∙ behind 252 (ends (drop 1 (h .bins))) (halves (h .key)) i ends252
+      ∙ behind 252 (ends (drop 1 (h .bins))) (halves (h .key) ++ h .edition ∷ []) i ends252
 
   pub record-words : Recorded h (recordOf h)
   record-words = record {
@@ -233,12 +234,13 @@ module _ (h : Heap) (stacked : length (h .stacks) ≡ 74) (binned : length (h .b
     lasts = record-binLast;
     low = in-key 0;
     high = in-key 1;
+    edition = in-key 2;
   }
 
--- ---- what holds of each kind of word holds of each of the 395
+-- ---- what holds of each kind of word holds of each of the 396
 record-cases : (P : ℕ → Type 0) → P lengthWord → P topWord → P remainderWord → ((k : ℕ) → k < 64 → P (cacheHead k)) → ((k : ℕ) → k < 64 → P (cacheCount k))
-    → ((k : ℕ) → k < 10 → P (fastHead k)) → ((j : ℕ) → 1 ≤ j → j ≤ 126 → P (binFirst j)) → ((j : ℕ) → 1 ≤ j → j ≤ 126 → P (binLast j)) → P keyLow → P keyHigh → (i : ℕ) → i < 395 → P i
-record-cases P a b c heads counts fasts firsts lasts kl kh i h =
+    → ((k : ℕ) → k < 10 → P (fastHead k)) → ((j : ℕ) → 1 ≤ j → j ≤ 126 → P (binFirst j)) → ((j : ℕ) → 1 ≤ j → j ≤ 126 → P (binLast j)) → P keyLow → P keyHigh → P editionWord → (i : ℕ) → i < 396 → P i
+record-cases P a b c heads counts fasts firsts lasts kl kh ed i h =
     ⊎-elim (λ l. low i l)
     (λ l. ⊎-elim (λ m. at (cacheHead (i - 3)) (omega arith) (heads (i - 3) (omega arith)))
     (λ m. ⊎-elim (λ n. at (cacheCount (i - 67)) (omega arith) (counts (i - 67) (omega arith)))
@@ -246,7 +248,7 @@ record-cases P a b c heads counts fasts firsts lasts kl kh i h =
     (λ o. ⊎-elim (λ p. ⊎-elim (λ q. at (binFirst (1 + (i - 141) / 2)) (omega arith) (firsts (1 + (i - 141) / 2) (omega arith) (omega arith)))
     (λ q. at (binLast (1 + (i - 141) / 2)) (omega arith) (lasts (1 + (i - 141) / 2) (omega arith) (omega arith)))
     (lt-or-le ((i - 141) % 2) 1))
-    (λ p. ⊎-elim (λ q. at keyLow (omega arith) kl) (λ q. at keyHigh (omega arith) kh) (lt-or-le i 394))
+    (λ p. ⊎-elim (λ q. at keyLow (omega arith) kl) (λ q. ⊎-elim (λ r. at keyHigh (omega arith) kh) (λ r. at editionWord (omega arith) ed) (lt-or-le i 395)) (lt-or-le i 394))
     (lt-or-le i 393))
     (lt-or-le i 141)) (lt-or-le i 131)) (lt-or-le i 67)) (lt-or-le i 3)
   where
@@ -265,7 +267,7 @@ record-ext h r s b k =
     ext-getD 0 r (recordOf h) (k .all ∙ sym (o .all))
     (λ i l. record-cases (λ n. getD r n 0 ≡ getD (recordOf h) n 0) (k .len ∙ sym (o .len)) (k .top ∙ sym (o .top)) (k .remainder ∙ sym (o .remainder))
     (λ n l. k .heads n l ∙ sym (o .heads n l)) (λ n l. k .counts n l ∙ sym (o .counts n l)) (λ n l. k .fasts n l ∙ sym (o .fasts n l))
-    (λ n l m. k .firsts n l m ∙ sym (o .firsts n l m)) (λ n l m. k .lasts n l m ∙ sym (o .lasts n l m)) (k .low ∙ sym (o .low)) (k .high ∙ sym (o .high)) i (omega (arith, k .all)))
+    (λ n l m. k .firsts n l m ∙ sym (o .firsts n l m)) (λ n l m. k .lasts n l m ∙ sym (o .lasts n l m)) (k .low ∙ sym (o .low)) (k .high ∙ sym (o .high)) (k .edition ∙ sym (o .edition)) i (omega (arith, k .all)))
 
 -- ---- a part of the record is set
 set-behind : (n : ℕ) (a b : List ℕ) (i v : ℕ) → length a ≡ n → set (a ++ b) (n + i) v ≡ a ++ set b i v
@@ -357,7 +359,7 @@ module _ (h : Heap) (stacked : length (h .stacks) ≡ 74) (binned : length (h .b
       let p : binFirst j ≡ 141 + 2 * m = omega arith in
       let q : binLast j ≡ 141 + suc (2 * m) = omega arith in
       let D = drop 1 (h .bins) in
-      let K = halves (h .key) in
+      let K = (halves (h .key) ++ h .edition ∷ []) in
       let e252 = ends252 h stacked binned in
       let a = heads h stacked binned in
       let b = counts h stacked binned in

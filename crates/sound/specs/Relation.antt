@@ -3,13 +3,15 @@
 use mathlib.Core.Path.{_≡_}
 use mathlib.Core.List.{List, [], _∷_, _++_}
 use mathlib.Core.Bool.{true, false}
+use mathlib.Core.Logic.{_⊎_}
 use Prim.Native.Nat.{ℕ, _+_, _-_, _*_, _/_, _%_, _≤_, _<_, _^_}
 use lib.Dec.{ltb}
 use lib.ListN.{length, getD}
-use Rattle.sizes.specs.Limits.{none64, newest, mostArena, leastChunk, cacheLists, cacheRoom, mostFast, large, firstLarge}
+use Rattle.sizes.specs.Limits.{none64, newest, mostArena, leastChunk, cacheLists, cacheRoom, mostFast, large, firstLarge, plain, mixed}
 use Rattle.sizes.specs.Sizes.{binOf}
 use Rattle.sizes.specs.Layout.{prevWord, sizeWord, fwdWord, backWord, keyWord}
 use Rattle.machine.specs.Lists.{hd, cnt}
+use Rattle.machine.specs.Mixing.{stored}
 use Rattle.machine.specs.Heap.{Tile, tile, Heap, stack, bin, binned, starts, topSize, sizeOf, total, recordOf}
 use Rattle.machine.specs.Writes.{Write, who, field, value}
 use Rattle.machine.specs.Skips.{skips}
@@ -28,10 +30,13 @@ abbrev pub tilesAt : List ℕ → ℕ → List Tile → Type 0
 tilesAt w o [] = Unit {0}
 tilesAt w o (t ∷ ts) = (getD w (sizeWord o) 0 ≡ t .size + t .p) × (t .p ≡ 0 → getD w (prevWord o) 0 ≡ t .prev) × tilesAt w (o + t .size) ts
 
--- ---- lists in memory: a stack along the forward links; a bin both ways, after p and before n
+-- ---- lists in memory: along the forward links, which are stored by edition d; a bin both ways, after p and before n
+abbrev pub chainBy : ℕ → List ℕ → List ℕ → Type 0
+chainBy d w [] = Unit {0}
+chainBy d w (x ∷ l) = (getD w (fwdWord x) 0 ≡ stored d x (hd none64 l)) × chainBy d w l
+
 abbrev pub chain : List ℕ → List ℕ → Type 0
-chain w [] = Unit {0}
-chain w (x ∷ l) = (getD w (fwdWord x) 0 ≡ hd none64 l) × chain w l
+chain w l = chainBy plain w l
 
 abbrev pub links : List ℕ → ℕ → List ℕ → ℕ → Type 0
 links w p [] n = Unit {0}
@@ -46,10 +51,11 @@ stand (e ∷ es) w = (getD w (who e / 8 + field e) 0 ≡ value e w) × stand es 
 pub record MemBy (v : ℕ) (h : Heap) (w : List ℕ) : Type 0 where
   pub long : 8 * length w ≡ h .len
   pub words : tilesAt w 0 (all h)
-  pub chains : (k : ℕ) → chain w (stack h k)
+  pub chains : (k : ℕ) → chainBy (h .edition) w (stack h k)
   pub blinks : (j : ℕ) → links w none64 (bin h j) none64
   pub keys : 2 ≤ v → (k x : ℕ) → k < cacheLists → 1 ≤ cnt x (stack h k) → getD w (keyWord x) 0 ≡ h .key
   pub key64 : h .key < 2 ^ 64
+  pub edited : (h .edition ≡ plain) ⊎ (h .edition ≡ mixed)
   pub skipped : 3 ≤ v → (j : ℕ) → stand (skips j (λ x. sizeOf h x) (bin h j)) w
 
 abbrev pub Mem : Heap → List ℕ → Type 0

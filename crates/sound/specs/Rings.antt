@@ -2,14 +2,14 @@
 -- Assumes nothing.
 use mathlib.Core.Path.{_≡_, refl, sym, ap, _∙_, subst}
 use mathlib.Core.List.{List, [], _∷_, _++_}
-use mathlib.Core.Logic.{_⊎_, inl, inr, ⊎-elim}
+use mathlib.Core.Logic.{_⊎_, ⊎-elim}
 use mathlib.Core.Bool.{Bool, true, false}
 use Prim.Native.Nat.{ℕ, _+_, _*_, _/_, _%_, _≤_, _<_}
 use native.Mathlib.Omega.{arith}
 use lib.Dec.{eqb, ltb}
 use lib.ListN.{length, getD, set}
 use lib.Seq.{getD-set-same, getD-set-other, set-getD}
-use borrow.Author.Tests.{eqb-true, eqb-false, ltb-true, ltb-false}
+use borrow.Author.Tests.{eqb-true, eqb-false, ltb-false}
 use Rattle.sizes.specs.Limits.{none64, large, unsorted, firstLarge}
 use Rattle.machine.specs.Lists.{ind, cnt, cntAll}
 use Rattle.machine.specs.Count.{eq?, ind-same, ind-other, cnt-append, cnt-here, cnt-there, cnt-le-all}
@@ -411,10 +411,11 @@ module _ (h : Heap) (s : Shape h) where
       record {
         long = rw apply-length (m .long);
         words = tiles-agree w v 0 (all h) (ag 0 (Starts h) (omega arith) (λ y n. n)) (ag 1 (Starts h) (omega arith) (λ y n. n)) (m .words);
-        chains = λ i. chain-cong w v (stack h i) (ag 2 (stack h i) (omega arith) (st i)) (m .chains i);
+        chains = λ i. chain-cong (h .edition) w v (stack h i) (ag 2 (stack h i) (omega arith) (st i)) (m .chains i);
         blinks = λ i. links-cong w v none64 (bin h i) none64 (ag 2 (bin h i) (omega arith) (bi i)) (ag 3 (bin h i) (omega arith) (bi i)) (m .blinks i);
         keys = λ z i x p n. ag 3 (stack h i) (omega arith) (st i) x n ∙ m .keys z i x p n;
         key64 = m .key64;
+        edited = m .edited;
         skipped = λ z. absurd (omega (arith, z));
       }
 
@@ -426,6 +427,7 @@ module _ (h : Heap) (s : Shape h) where
     blinks = m .blinks;
     keys = λ z. m .keys (omega arith);
     key64 = m .key64;
+    edited = m .edited;
     skipped = λ z. k;
   }
 

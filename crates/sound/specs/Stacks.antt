@@ -9,11 +9,12 @@ use lib.ListN.{length, getD, length-set}
 use Rattle.sizes.specs.Limits.{cacheRoom, mostFast, none64}
 use Rattle.sizes.specs.Layout.{fwdWord, keyWord}
 use Rattle.machine.specs.Lists.{hd, tl, cnt}
+use Rattle.machine.specs.Mixing.{stored}
 use Rattle.machine.specs.Count.{eq?, ind-same, ind-other, cnt-here, cntAll-set, cnt-le-all}
 use Rattle.machine.specs.Heap.{Heap, stack, bin, withStack, sizeOf, total}
 use Rattle.machine.specs.Writes.{Write, put, apply, heapOf, does, link, key}
 use Rattle.machine.specs.Primitives.{push, pop, pushCache, takeCache}
-use Rattle.sound.specs.Relation.{all, chain, Mem, Shape, Loose, stackSize, Good}
+use Rattle.sound.specs.Relation.{all, chainBy, Mem, Shape, Loose, stackSize, Good}
 use Rattle.sound.specs.Frames.{Agree, chain-cong, links-cong, set-cases, Starts, starts-all, Grid, grid, Sub, apply-length, put-length, put-other, put-same, agree, LinkW, link-low, link-out, tiles-agree, in-starts}
 use Rattle.sound.specs.Rings.{link-low-w, low-skips}
 use Rattle.sound.specs.Ends.{Ends}
@@ -22,9 +23,9 @@ cnt-tl : (x : ℕ) (l : List ℕ) → cnt x (tl l) ≤ cnt x l
 cnt-tl x [] = omega arith
 cnt-tl x (y ∷ l) = omega arith
 
-chain-tl : (w l : List ℕ) → chain w l → chain w (tl l)
-chain-tl w [] c = tt
-chain-tl w (x ∷ l) c = c .1
+chain-tl : (d : ℕ) (w l : List ℕ) → chainBy d w l → chainBy d w (tl l)
+chain-tl d w [] c = tt
+chain-tl d w (x ∷ l) c = c .1
 
 length-tl : (l : List ℕ) → length (tl l) ≤ length l
 length-tl [] = omega arith
@@ -41,10 +42,11 @@ pop-ends h w k hk g m =
         long = m .long;
         words = m .words;
         blinks = m .blinks;
-        chains = λ j. set-cases (chain w) (h .stacks) k l j hk′ (λ e. chain-tl w (stack h k) (m .chains k)) (λ e. m .chains j);
+        chains = λ j. set-cases (chainBy (h .edition) w) (h .stacks) k l j hk′ (λ e. chain-tl (h .edition) w (stack h k) (m .chains k)) (λ e. m .chains j);
         keys = λ z j x p. set-cases (λ l. 1 ≤ cnt x l → getD w (keyWord x) 0 ≡ h .key) (h .stacks) k l j hk′
             (λ e i. m .keys z j x p (rw e (omega (arith, cnt-tl x (stack h k))))) (λ e. m .keys z j x p);
         key64 = m .key64;
+        edited = m .edited;
         skipped = m .skipped;
       };
       now = record {
@@ -89,18 +91,19 @@ loose-mem h w c ws s m lo lw =
       words = tiles-agree w v 0 (all h)
           (agree S (length w) G ws w 0 S (omega arith) (λ x k. k) (link-low S (c ∷ []) S 0 ws sc (omega arith) lw))
           (agree S (length w) G ws w 1 S (omega arith) (λ x k. k) (link-low S (c ∷ []) S 1 ws sc (omega arith) lw)) (m .words);
-      chains = λ j. chain-cong w v (stack h j) (ag 2 (stack h j) (omega arith) (λ y. omega (arith, cnt-le-all y (h .stacks) j))) (m .chains j);
+      chains = λ j. chain-cong (h .edition) w v (stack h j) (ag 2 (stack h j) (omega arith) (λ y. omega (arith, cnt-le-all y (h .stacks) j))) (m .chains j);
       blinks = λ j. links-cong w v none64 (bin h j) none64
           (ag 2 (bin h j) (omega arith) (λ y. omega (arith, cnt-le-all y (h .bins) j)))
           (ag 3 (bin h j) (omega arith) (λ y. omega (arith, cnt-le-all y (h .bins) j))) (m .blinks j);
       keys = λ z j x p i. ag 3 (stack h j) (omega arith) (λ y. omega (arith, cnt-le-all y (h .stacks) j)) x i ∙ m .keys z j x p i;
       key64 = m .key64;
+      edited = m .edited;
       skipped = λ z. low-skips h s ws w (link-low-w h s (c ∷ []) ws sc lw) (m .skipped z);
     }
 
 -- ---- c, which no list has, goes on stack k; its words are v's, with its link, and in the cache the key
 pushed-ends : (h : Heap) (w : List ℕ) (k c : ℕ) (ws : List Write) → k < 74 → Good h → Mem h w → Loose h c → sizeOf h c ≡ stackSize k → (64 ≤ k → sizeOf h c ≤ 128)
-    → (k < 64 → length (stack h k) < 7) → LinkW (c ∷ []) ws → getD (apply ws w) (fwdWord c) 0 ≡ hd none64 (stack h k)
+    → (k < 64 → length (stack h k) < 7) → LinkW (c ∷ []) ws → getD (apply ws w) (fwdWord c) 0 ≡ stored (h .edition) c (hd none64 (stack h k))
     → (k < 64 → getD (apply ws w) (keyWord c) 0 ≡ h .key) → Ends (does (withStack k (c ∷ stack h k) h) ws) w Good
 pushed-ends h w k c ws hk g m lo sz qk sh lw el ek =
     let s = g .shape in
@@ -113,13 +116,14 @@ pushed-ends h w k c ws hk g m lo sz qk sh lw el ek =
       mem = record {
         long = n .long;
         words = n .words;
-        chains = λ j. set-cases (chain v) (h .stacks) k l j hk′ (λ e. (el, n .chains k)) (λ e. n .chains j);
+        chains = λ j. set-cases (chainBy (h .edition) v) (h .stacks) k l j hk′ (λ e. (el, n .chains k)) (λ e. n .chains j);
         blinks = n .blinks;
         keys = λ z j x p. set-cases (λ l. 1 ≤ cnt x l → getD v (keyWord x) 0 ≡ h .key) (h .stacks) k l j hk′
             (λ e i. ⊎-elim (λ q. ap (λ (y : ℕ). getD v (keyWord y) 0) q ∙ ek (rw e at p))
             (λ (q : x ≡ c → ⊥). n .keys z j x p (rw e (omega (arith, ind-other x c q)))) (eq? x c))
             (λ e. n .keys z j x p);
         key64 = n .key64;
+        edited = n .edited;
         skipped = n .skipped;
       };
       now = record {
@@ -158,8 +162,8 @@ link-words c x = (omega arith, cnt-here c [], tt)
 pub push-ends : (h : Heap) (w : List ℕ) (k c : ℕ) → 64 ≤ k → k < 74 → Good h → Mem h w → Loose h c → sizeOf h c ≡ stackSize k → sizeOf h c ≤ 128 → Ends (push k c h) w Good
 push-ends h w k c lk hk g m lo sz q =
     let G : Grid (Starts h) (length w) = grid h (length w) (g .shape .sizes) (m .long) in
-    pushed-ends h w k c (link c (hd none64 (stack h k)) ∷ []) hk g m lo sz (λ z. q) (λ z. absurd (omega arith)) (link-words c (hd none64 (stack h k)))
-    (put-same (Starts h) (length w) G (link c (hd none64 (stack h k))) (omega arith) w refl (omega (arith, starts-all h c)))
+    pushed-ends h w k c (link c (stored (h .edition) c (hd none64 (stack h k))) ∷ []) hk g m lo sz (λ z. q) (λ z. absurd (omega arith)) (link-words c (stored (h .edition) c (hd none64 (stack h k))))
+    (put-same (Starts h) (length w) G (link c (stored (h .edition) c (hd none64 (stack h k)))) (omega arith) w refl (omega (arith, starts-all h c)))
     (λ z. absurd (omega arith))
 
 -- ---- the cache: the key behind the link
@@ -168,7 +172,7 @@ pushCache-ends h w k c hk g m lo sz sh =
     let S : List ℕ = Starts h in
     let G : Grid S (length w) = grid h (length w) (g .shape .sizes) (m .long) in
     let mc : 1 ≤ cnt c S = omega (arith, starts-all h c) in
-    let x : ℕ = hd none64 (stack h k) in
+    let x : ℕ = stored (h .edition) c (hd none64 (stack h k)) in
     let w₁ : List ℕ = put (link c x) w in
     pushed-ends h w k c (link c x ∷ key c (h .key) ∷ []) (omega arith) g m lo sz (λ z. absurd (omega arith)) (λ z. sh)
     (omega arith, cnt-here c [], (omega arith, cnt-here c [], tt))

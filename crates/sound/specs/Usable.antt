@@ -168,10 +168,11 @@ module _ (h : Heap) (w v : List ℕ) (g : Good h) (q : Mem h w) (a : Agrees h w 
     words = tiles-join v 0 (h .tiles) (tile (topSize h) 1 0 ∷ [])
         (tilesAt-same w v 0 (h .tiles) refl whole (λ x m. size-word x (start (h .tiles) 0 x whole m .even) (inl m)) prev-word (t .0))
         (size-word (topOf h) (end-even 0 (h .tiles) refl whole) (inr refl) ∙ t .1 .0, λ z. absurd (omega (arith, z)), tt);
-    chains = λ k. chain-cong w v (stack h k) (λ x m. link-words x (omega (arith, m, cnt-le-all x (h .stacks) k)) .0) (q .chains k);
+    chains = λ k. chain-cong (h .edition) w v (stack h k) (λ x m. link-words x (omega (arith, m, cnt-le-all x (h .stacks) k)) .0) (q .chains k);
     blinks = λ j. links-cong w v _ (bin h j) _ (λ x m. bin-words x j m .0) (λ x m. bin-words x j m .1) (q .blinks j);
     keys = λ z k x p m. link-words x (omega (arith, m, cnt-le-all x (h .stacks) k)) .1 ∙ q .keys z k x p m;
     key64 = q .key64;
+    edited = q .edited;
     skipped = λ z. skips-kept h (g .shape) w v (λ x i mx mb lx hi. skip-words x i (omega (arith, mb)) lx hi) (q .skipped z);
   }
     where

@@ -14,10 +14,13 @@ use Rattle.image_keys.proofs.key_list.Statement.{statement}
 use Rattle.image_keys.proofs.key_list.Tie as tie
 
 abbrev Inv-loop : tie.InvT-loop
-Inv-loop a₀ r k q x₀ a x = (length a ≡ length a₀) × ((h : Heap) → SoundBy 1 h (arenaWords a₀) r → Unkeyed q (apply (keysFor q (stack h k)) (arenaWords a₀)) (arenaWords a) (x .0))
+Inv-loop a₀ r k q d x₀ a x = (length a ≡ length a₀) × ((h : Heap) → SoundBy 1 h (arenaWords a₀) r → Unkeyed d q (apply (keysFor q (stack h k)) (arenaWords a₀)) (arenaWords a) (x .0))
 
 abbrev μ-loop : tie.MeasureT-loop
-μ-loop a₀ r k q x₀ a x = unkeyed (arenaWords a) (x .0)
+μ-loop a₀ r k q d x₀ a x = unkeyed d (arenaWords a) (x .0)
+
+edition-in-requires : tie.Need-edition-in-requires Inv-loop μ-loop
+edition-in-requires c κs = lacking-length _ _ _ (c .before .before .pre .1 .sound)
 
 add-link-of : tie.Need-add-link-of Inv-loop μ-loop
 add-link-of c = search needs
@@ -26,29 +29,29 @@ mul-link-of : tie.Need-mul-link-of Inv-loop μ-loop
 mul-link-of c = search needs
 
 shared-slice-read-link-of : tie.Need-shared-slice-read-link-of Inv-loop μ-loop
-shared-slice-read-link-of c = omega (arith, lacking-length _ _ _ (c .before .before .before .pre .1 .sound))
+shared-slice-read-link-of c = omega (arith, lacking-length _ _ _ (c .before .before .before .before .pre .1 .sound))
 
 link-of-requires : tie.Need-link-of-requires Inv-loop μ-loop
 link-of-requires c κs = search needs
 
 loop-holds : tie.Need-loop-holds Inv-loop μ-loop
 loop-holds c =
-    let s = c .before .before .before .before in
-    (refl, λ h o. unkeyed-start h _ _ (s .args .k) (s .args .q) _ o (s .pre .0) (c .link-of .ensures))
+    let s = c .before .before .before .before .before in
+    (refl, λ h o. unkeyed-start h _ _ (s .args .k) _ (s .args .q) _ o (s .pre .0) (c .before .before .edition-in .ensures) (c .link-of .ensures))
 
-fwd-at-requires : tie.Need-fwd-at-requires Inv-loop μ-loop
-fwd-at-requires c κs =
+stack-link-at-requires : tie.Need-stack-link-at-requires Inv-loop μ-loop
+stack-link-at-requires c κs =
     let i = c .before in
     let l = i .before .before in
-    let s = l .before .before .before .before .before in
+    let s = l .before .before .before .before .before .before in
     let p = unkeyed-inside _ (l .loop .inv .1 (s .pre .1 .heap) (s .pre .1 .sound)) (i .if1 .taken) in
-    (omega arith, omega arith)
+    (omega arith, omega arith, omega arith)
 
 set-key-requires : tie.Need-set-key-requires Inv-loop μ-loop
 set-key-requires c κs =
     let i = c .before .before .before in
     let l = i .before .before in
-    let s = l .before .before .before .before .before in
+    let s = l .before .before .before .before .before .before in
     let p = unkeyed-inside _ (l .loop .inv .1 (s .pre .1 .heap) (s .pre .1 .sound)) (i .if1 .taken) in
     (omega arith, omega arith)
 
@@ -57,8 +60,8 @@ loop-less c =
     let f = c .before .before .before .before in
     let i = f .before .before in
     let l = i .before .before in
-    let s = l .before .before .before .before .before in
-    unkeyed-next (l .loop .inv .1 (s .pre .1 .heap) (s .pre .1 .sound)) (i .if1 .taken) (f .fwd-at .ensures) (c .before .before .set-key .ensures) .fewer
+    let s = l .before .before .before .before .before .before in
+    unkeyed-next (l .loop .inv .1 (s .pre .1 .heap) (s .pre .1 .sound)) (i .if1 .taken) (f .stack-link-at .ensures) (c .before .before .set-key .ensures) .fewer
 
 loop-again : tie.Need-loop-again Inv-loop μ-loop
 loop-again c =
@@ -66,7 +69,7 @@ loop-again c =
     let f = d .before .before in
     let i = f .before .before in
     let l = i .before .before in
-    (d .set-key .kept .0 ∙ l .loop .inv .0, λ h o. unkeyed-next (l .loop .inv .1 h o) (i .if1 .taken) (f .fwd-at .ensures) (d .set-key .ensures) .on)
+    (d .set-key .kept .0 ∙ l .loop .inv .0, λ h o. unkeyed-next (l .loop .inv .1 h o) (i .if1 .taken) (f .stack-link-at .ensures) (d .set-key .ensures) .on)
 
 same-length : tie.Need-same-length Inv-loop μ-loop
 same-length c = c .before .before .loop .inv .0
@@ -77,4 +80,4 @@ returns c = λ h o. unkeyed-end (c .before .before .loop .inv .1 h o) (c .if1 .l
 pub key-list-spec : {M : Type 1} → statement M
 key-list-spec =
     tie.close
-    (tie.spec Inv-loop μ-loop add-link-of mul-link-of shared-slice-read-link-of link-of-requires loop-holds fwd-at-requires set-key-requires loop-less loop-again same-length returns)
+    (tie.spec Inv-loop μ-loop edition-in-requires add-link-of mul-link-of shared-slice-read-link-of link-of-requires loop-holds stack-link-at-requires set-key-requires loop-less loop-again same-length returns)

@@ -30,20 +30,23 @@ mul-n c = search needs
 slice-read-n : tie.Need-slice-read-n
 slice-read-n c = omega (arith, ok-length _ _ _ (c .before .before .before .before .pre .1 .ok))
 
+edition-in-requires : tie.Need-edition-in-requires
+edition-in-requires c κs = ok-length _ _ _ (c .before .before .before .before .before .pre .1 .ok)
+
 link-of-requires : tie.Need-link-of-requires
 link-of-requires c κs = search needs
 
-set-fwd-requires : tie.Need-set-fwd-requires
-set-fwd-requires c κs = let i = inside (c .before .before .before .before .before .before) in (omega arith, omega arith)
+set-stack-link-requires : tie.Need-set-stack-link-requires
+set-stack-link-requires c κs = let i = inside (c .before .before .before .before .before .before .before .before) in (omega arith, omega arith, omega arith)
 
 key-in-requires : tie.Need-key-in-requires
-key-in-requires c κs = ok-length _ _ _ (c .before .before .before .before .before .before .before .before .before .before .before .pre .1 .ok)
+key-in-requires c κs = ok-length _ _ _ (c .before .before .before .before .before .before .before .before .before .before .before .before .before .pre .1 .ok)
 
 set-key-requires : tie.Need-set-key-requires
-set-key-requires c κs = let i = inside (c .before .before .before .before .before .before .before .before .before .before .before .before) in (omega arith, omega (arith, c .before .before .before .before .before .set-fwd .kept .0))
+set-key-requires c κs = let i = inside (c .before .before .before .before .before .before .before .before .before .before .before .before .before .before) in (omega arith, omega (arith, c .before .before .before .before .before .set-stack-link .kept .0))
 
 cast-r : tie.Need-cast-r
-cast-r c = record { fits = omega (arith, inside (c .before .before .before .before .before .before .before .before .before .before .before .before .before .before .before .before) .small) }
+cast-r c = record { fits = omega (arith, inside (c .before .before .before .before .before .before .before .before .before .before .before .before .before .before .before .before .before .before) .small) }
 
 add-r : tie.Need-add-r
 add-r c = search needs
@@ -52,10 +55,10 @@ mul-r : tie.Need-mul-r
 mul-r c = search needs
 
 slice-write-r : tie.Need-slice-write-r
-slice-write-r c = omega (arith, ok-length _ _ _ (c .before .before .before .before .before .before .before .before .before .before .before .before .before .before .before .before .pre .1 .ok))
+slice-write-r c = omega (arith, ok-length _ _ _ (c .before .before .before .before .before .before .before .before .before .before .before .before .before .before .before .before .before .before .pre .1 .ok))
 
 add-r-2 : tie.Need-add-r-2
-add-r-2 c = let s = c .before .before .before .before .before .before .before .before .before .before .before .before .before .before .before .before in omega (arith, ok-cacheCount _ _ _ (s .pre .1 .ok) (s .args .k) (s .pre .0), s .pre .1 .holds .1)
+add-r-2 c = let s = c .before .before .before .before .before .before .before .before .before .before .before .before .before .before .before .before .before .before in omega (arith, ok-cacheCount _ _ _ (s .pre .1 .ok) (s .args .k) (s .pre .0), s .pre .1 .holds .1)
 
 add-r-3 : tie.Need-add-r-3
 add-r-3 c = search needs
@@ -64,7 +67,7 @@ mul-r-2 : tie.Need-mul-r-2
 mul-r-2 c = search needs
 
 slice-write-r-2 : tie.Need-slice-write-r-2
-slice-write-r-2 c = simp length-set (omega (arith, ok-length _ _ _ (c .before .before .before .before .before .before .before .before .before .before .before .before .before .before .before .before .pre .1 .ok)))
+slice-write-r-2 c = simp length-set (omega (arith, ok-length _ _ _ (c .before .before .before .before .before .before .before .before .before .before .before .before .before .before .before .before .before .before .pre .1 .ok)))
 
 same-length : tie.Need-same-length
 same-length c = search needs
@@ -74,10 +77,12 @@ same-length-2 c = search needs
 
 returns : tie.Need-returns
 returns c =
-    let s = c .before .before .before .before .before .before .before .before .before .before .before .before .before .before .before .before in
-    record { does = λ h o m. push-cache-gave h _ _ o (s .args .k) (s .args .c .0) _ _ _ _ _ (s .pre .0) (c .before .before .before .before .before .before .before .before .before .before .link-of .ensures) (c .before .before .before .before .before .before .before .before .before .set-fwd .ensures) (c .before .before .before .before .key-in .ensures) (c .before .before .before .set-key .ensures) refl }
+    let s = c .before .before .before .before .before .before .before .before .before .before .before .before .before .before .before .before .before .before in
+    record {
+      does = λ h o m.
+          push-cache-gave h _ _ o (s .args .k) (s .args .c .0) _ _ _ _ _ _ (s .pre .0) (c .before .before .before .before .before .before .before .before .before .before .link-of .ensures) (c .before .before .before .before .before .before .before .before .before .before .before .before .edition-in .ensures)
+          (c .before .before .before .before .before .before .before .before .before .set-stack-link .ensures) (c .before .before .before .before .key-in .ensures) (c .before .before .before .set-key .ensures) refl;
+    }
 
 pub push-cache-spec : {M : Type 1} → statement M
-push-cache-spec =
-    tie.close
-    (tie.spec add-x mul-x slice-read-x add-n mul-n slice-read-n link-of-requires set-fwd-requires key-in-requires set-key-requires cast-r add-r mul-r slice-write-r add-r-2 add-r-3 mul-r-2 slice-write-r-2 same-length same-length-2 returns)
+push-cache-spec = tie.close (tie.spec add-x mul-x slice-read-x add-n mul-n slice-read-n edition-in-requires link-of-requires set-stack-link-requires key-in-requires set-key-requires cast-r add-r mul-r slice-write-r add-r-2 add-r-3 mul-r-2 slice-write-r-2 same-length same-length-2 returns)

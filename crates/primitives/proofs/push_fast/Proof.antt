@@ -21,14 +21,17 @@ mul-x c = search needs
 slice-read-x : tie.Need-slice-read-x
 slice-read-x c = omega (arith, ok-length _ _ _ (c .before .before .before .pre .1 .ok))
 
+edition-in-requires : tie.Need-edition-in-requires
+edition-in-requires c κs = ok-length _ _ _ (c .before .before .before .before .pre .1 .ok)
+
 link-of-requires : tie.Need-link-of-requires
 link-of-requires c κs = search needs
 
-set-fwd-requires : tie.Need-set-fwd-requires
-set-fwd-requires c κs = let i = inside (c .before .before .before .before .before) in (omega arith, omega arith)
+set-stack-link-requires : tie.Need-set-stack-link-requires
+set-stack-link-requires c κs = let i = inside (c .before .before .before .before .before .before .before) in (omega arith, omega arith, omega arith)
 
 cast-r : tie.Need-cast-r
-cast-r c = record { fits = omega (arith, inside (c .before .before .before .before .before .before .before .before .before) .small) }
+cast-r c = record { fits = omega (arith, inside (c .before .before .before .before .before .before .before .before .before .before .before) .small) }
 
 add-r : tie.Need-add-r
 add-r c = search needs
@@ -37,7 +40,7 @@ mul-r : tie.Need-mul-r
 mul-r c = search needs
 
 slice-write-r : tie.Need-slice-write-r
-slice-write-r c = omega (arith, ok-length _ _ _ (c .before .before .before .before .before .before .before .before .before .pre .1 .ok))
+slice-write-r c = omega (arith, ok-length _ _ _ (c .before .before .before .before .before .before .before .before .before .before .before .pre .1 .ok))
 
 same-length : tie.Need-same-length
 same-length c = search needs
@@ -47,10 +50,12 @@ same-length-2 c = search needs
 
 returns : tie.Need-returns
 returns c =
-    let s = c .before .before .before .before .before .before .before .before .before in
-    record { does = λ h o m. push-fast-gave h _ _ o (s .args .k) (s .args .c .0) _ _ _ (s .pre .0) (c .before .before .before .before .link-of .ensures) (c .before .before .before .set-fwd .ensures) refl }
+    let s = c .before .before .before .before .before .before .before .before .before .before .before in
+    record {
+      does = λ h o m.
+          push-fast-gave h _ _ o (s .args .k) (s .args .c .0) _ _ _ _ (s .pre .0) (c .before .before .before .before .link-of .ensures) (c .before .before .before .before .before .before .edition-in .ensures)
+          (c .before .before .before .set-stack-link .ensures) refl;
+    }
 
 pub push-fast-spec : {M : Type 1} → statement M
-push-fast-spec =
-    tie.close
-    (tie.spec add-x mul-x slice-read-x link-of-requires set-fwd-requires cast-r add-r mul-r slice-write-r same-length same-length-2 returns)
+push-fast-spec = tie.close (tie.spec add-x mul-x slice-read-x edition-in-requires link-of-requires set-stack-link-requires cast-r add-r mul-r slice-write-r same-length same-length-2 returns)

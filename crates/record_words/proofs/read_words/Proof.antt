@@ -10,10 +10,10 @@ use Rattle.record_words.proofs.read_words.Statement.{statement}
 use Rattle.record_words.proofs.read_words.Tie as tie
 
 abbrev Inv-loop : tie.InvT-loop
-Inv-loop b r₀ i₀ r i = (i ≤ 395) × (length r ≡ 395) × Passed 4 b r i
+Inv-loop b r₀ i₀ r i = (i ≤ 396) × (length r ≡ 396) × Passed 4 b r i
 
 abbrev μ-loop : tie.MeasureT-loop
-μ-loop b r₀ i₀ r i = 395 - i
+μ-loop b r₀ i₀ r i = 396 - i
 
 loop-holds : tie.Need-loop-holds Inv-loop μ-loop
 loop-holds c = search needs
@@ -45,7 +45,7 @@ same-length : tie.Need-same-length Inv-loop μ-loop
 same-length c = search needs
 
 returns : tie.Need-returns Inv-loop μ-loop
-returns c = let h = c .before .loop in words-ext 4 395 _ _ (h .inv .1) (λ k lt. h .inv .2 k (omega arith))
+returns c = let h = c .before .loop in words-ext 4 396 _ _ (h .inv .1) (λ k lt. h .inv .2 k (omega arith))
 
 pub read-words-spec : {M : Type 1} → statement M
 read-words-spec =

@@ -13,10 +13,10 @@ use Rattle.record_words.proofs.write_words.Statement.{statement}
 use Rattle.record_words.proofs.write_words.Tie as tie
 
 abbrev Inv-loop : tie.InvT-loop
-Inv-loop b₀ r i₀ b i = (i ≤ 395) × (length b ≡ 1580) × ((k : ℕ) → getD b k 0 < 256) × Passed 4 b r i
+Inv-loop b₀ r i₀ b i = (i ≤ 396) × (length b ≡ 1584) × ((k : ℕ) → getD b k 0 < 256) × Passed 4 b r i
 
 abbrev μ-loop : tie.MeasureT-loop
-μ-loop b₀ r i₀ b i = 395 - i
+μ-loop b₀ r i₀ b i = 396 - i
 
 loop-holds : tie.Need-loop-holds Inv-loop μ-loop
 loop-holds c = (search needs, search needs, λ k. c .before .slice-known .given k .fits, below-none _)
@@ -57,7 +57,7 @@ returns : tie.Need-returns Inv-loop μ-loop
 returns c =
     let h = c .before .loop in
     let a = c .before .before .before .before in
-    sym (bytes-words 4 395 (h .b) (h .inv .1) (h .inv .2)) ∙ ap (bytes 4) (sym (words-ext 4 395 (h .b) (a .args .r .now) (a .pre .1) (λ k lt. h .inv .3 k (omega arith))))
+    sym (bytes-words 4 396 (h .b) (h .inv .1) (h .inv .2)) ∙ ap (bytes 4) (sym (words-ext 4 396 (h .b) (a .args .r .now) (a .pre .1) (λ k lt. h .inv .3 k (omega arith))))
 
 pub write-words-spec : {M : Type 1} → statement M
 write-words-spec =

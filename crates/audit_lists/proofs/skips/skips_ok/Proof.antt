@@ -41,7 +41,7 @@ puts-stand-requires c κs =
     let r = s .args .r .now in
     let k = c .before .before .before .k .given .1 in
     let h = c .before .head .ensures ∙ ap (headOf r) (sym k) in
-    list-walked (s .args .k) w r _ (s .pre .2) h
+    list-walked (s .args .k) w r _ (s .pre .2) h _ k
 
 returns-2 : tie.Need-returns-2
 returns-2 c =
@@ -50,7 +50,7 @@ returns-2 c =
     let r = s .args .r .now in
     let k = c .before .before .before .before .k .given .1 in
     let h = c .before .before .head .ensures ∙ ap (headOf r) (sym k) in
-    skips-unsorted (s .args .v) w _ (s .args .k) _ _ k (c .before .before .before .before .before .before .if1 .left) (c .before .if2 .taken) (c .puts-stand .ensures _ (list-walk (s .args .k) w r _ (s .pre .2) h))
+    skips-unsorted (s .args .v) w _ (s .args .k) _ _ k (c .before .before .before .before .before .before .if1 .left) (c .before .if2 .taken) (c .puts-stand .ensures _ (list-walk (s .args .k) w r _ (s .pre .2) h _ k))
 
 returns-3 : tie.Need-returns-3
 returns-3 c =

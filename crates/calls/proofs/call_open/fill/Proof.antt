@@ -1,4 +1,4 @@
--- `fill` writes a blank record. The invariant: the counts passed are 0, and nothing else was written; the key comes last. Assumes nothing.
+-- `fill` writes a blank record. The invariant: the counts passed are 0, and nothing else was written; the key and the edition come last. Assumes nothing.
 use Prim.Native.Nat.{_-_, _/_, _%_, _^_, _≤_}
 use mathlib.Core.Path.{_≡_, refl, _∙_, ap}
 use mathlib.Core.List.{List}
@@ -12,10 +12,10 @@ use Rattle.calls.proofs.call_open.fill.Statement.{statement}
 use Rattle.calls.proofs.call_open.fill.Tie as tie
 
 abbrev Inv-loop : tie.InvT-loop
-Inv-loop r₀ n t key k₀ r k = (k ≤ 64) × (length r ≡ 395) × (r ≡ zeroed k r₀)
+Inv-loop r₀ n t key edition k₀ r k = (k ≤ 64) × (length r ≡ 396) × (r ≡ zeroed k r₀)
 
 abbrev μ-loop : tie.MeasureT-loop
-μ-loop r₀ n t key k₀ r k = 64 - k
+μ-loop r₀ n t key edition k₀ r k = 64 - k
 
 slice-write-r : tie.Need-slice-write-r Inv-loop μ-loop
 slice-write-r c = omega (arith, empty-length _ (c .before .pre))
@@ -49,21 +49,24 @@ loop-again c = (search needs, search needs, rw add-one (cc))
 set-key-in-requires : tie.Need-set-key-in-requires Inv-loop μ-loop
 set-key-in-requires c κs = c .before .before .loop .inv .1
 
+slice-write-r-4 : tie.Need-slice-write-r-4 Inv-loop μ-loop
+slice-write-r-4 c = omega (arith, c .before .before .set-key-in .kept .0, c .before .before .before .before .before .loop .inv .1)
+
 same-length : tie.Need-same-length Inv-loop μ-loop
-same-length c = omega (arith, c .before .before .set-key-in .kept .0, c .before .before .before .before .before .loop .inv .1, empty-length _ (c .before .before .before .before .before .before .before .pre))
+same-length c = simp length-set (omega (arith, c .before .before .set-key-in .kept .0, c .before .before .before .before .before .loop .inv .1, empty-length _ (c .before .before .before .before .before .before .before .pre)))
 
 returns : tie.Need-returns Inv-loop μ-loop
 returns c =
     let h = c .before .before .before .before .before .loop in
     let s = c .before .before .before .before .before .before .before in
-    let keyed : List ℕ → List ℕ = λ l. set (set l 393 (s .args .key % 2 ^ 32)) 394 (s .args .key / 2 ^ 32) in
+    let chosen : List ℕ → List ℕ = λ l. set (set (set l 393 (s .args .key % 2 ^ 32)) 394 (s .args .key / 2 ^ 32)) 395 (s .args .edition) in
     let e : h .k ≡ 64 = omega arith in
-    c .before .before .set-key-in .ensures
-    ∙ ap keyed (h .inv .2 ∙ ap (λ (i : ℕ). zeroed i (set (set (s .args .r .now) 0 (s .args .n)) 1 (s .args .t))) e
+    ap (λ (l : List ℕ). set l 395 (s .args .edition)) (c .before .before .set-key-in .ensures)
+    ∙ ap chosen (h .inv .2 ∙ ap (λ (i : ℕ). zeroed i (set (set (s .args .r .now) 0 (s .args .n)) 1 (s .args .t))) e
     ∙ ap (λ (l : List ℕ). zeroed 64 (set (set l 0 (s .args .n)) 1 (s .args .t))) (s .pre))
-    ∙ zeroed-blank (s .args .n) (s .args .t) (s .args .key)
+    ∙ zeroed-blank (s .args .n) (s .args .t) (s .args .key) (s .args .edition)
 
 pub fill-spec : {M : Type 1} → statement M
 fill-spec =
     tie.close
-    (tie.spec Inv-loop μ-loop slice-write-r slice-write-r-2 loop-holds add-r mul-r slice-write-r-3 add-k loop-less loop-again set-key-in-requires same-length returns)
+    (tie.spec Inv-loop μ-loop slice-write-r slice-write-r-2 loop-holds add-r mul-r slice-write-r-3 add-k loop-less loop-again set-key-in-requires slice-write-r-4 same-length returns)

@@ -7,13 +7,13 @@ use Rattle.calls.proofs.shape.shaped.Statement.{statement}
 use Rattle.calls.proofs.shape.shaped.Tie as tie
 
 returns : tie.Need-returns
-returns c = sym (rw (ne-eqb (length (c .before .before .before .args .control .now)) 1580 (c .if1 .taken)))
+returns c = sym (rw (ne-eqb (length (c .before .before .before .args .control .now)) 1584 (c .if1 .taken)))
 
 allowed-requires : tie.Need-allowed-requires
 allowed-requires c κs = search needs
 
 returns-2 : tie.Need-returns-2
-returns-2 c = c .allowed .ensures ∙ sym (rw (eq-eqb (length (c .before .before .before .before .args .control .now)) 1580 (c .before .if1 .left)))
+returns-2 c = c .allowed .ensures ∙ sym (rw (eq-eqb (length (c .before .before .before .before .args .control .now)) 1584 (c .before .if1 .left)))
 
 pub shaped-spec : {M : Type 1} → statement M
 shaped-spec = tie.close (tie.spec returns allowed-requires returns-2)

@@ -27,9 +27,9 @@ fits d = fits-true _ _ _ (sym (d .before .fits2 .ensures) ∙ not-false _ (d .if
 record Lengths (f a r : List ℕ) (n : ℕ) : Type 0 where
   by : n ≡ recordBytesBy (versionIn f)
   least : 1572 ≤ n
-  most : n ≤ 1580
+  most : n ≤ 1584
   file : length f ≡ 9 + n + length a
-  long : length r ≡ 1580
+  long : length r ≡ 1584
 
 lengths : (d : tie.Else3) (n : ℕ) → n ≡ recordBytesBy (d .before .before .before .before .before .before .version-in .result)
     → Lengths (d .before .before .before .before .before .before .before .before .before .before .before .before .args .file .now) (d .before .before .before .before .before .before .before .before .before .before .before .before .args .arena .now) (d .before .before .before .before .before .before .before .before .before .before .before .before .args .control .now) n

@@ -16,7 +16,7 @@ use Rattle.image.proofs.write.write_image.Tie as tie
 shape : (d : tie.Else1) → shape? (d .before .before .before .before .before .args .arena .now) (d .before .before .before .before .before .args .control .now) ≡ true
 shape d = sym (d .before .shaped .ensures) ∙ not-false _ (d .if1 .left)
 
-long : (d : tie.Else1) → length (d .before .before .before .before .before .args .control .now) ≡ 1580
+long : (d : tie.Else1) → length (d .before .before .before .before .before .args .control .now) ≡ 1584
 long d = shape-long (d .before .before .before .before .before .args .arena .now) (d .before .before .before .before .before .args .control .now) (shape d)
 
 most : (d : tie.Else1) → length (d .before .before .before .before .before .args .arena .now) ≤ 262144

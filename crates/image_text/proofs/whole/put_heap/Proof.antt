@@ -1,8 +1,9 @@
--- `whole::put_heap` meets its contract: head and answer, and where there are tiles to show, the tiles. Assumes nothing.
+-- `whole::put_heap` meets its contract: first lines and answer, and where there are tiles to show, the tiles. Assumes nothing.
 use mathlib.Core.Path.{sym, _∙_}
 use native.Mathlib.Omega.{arith}
 use borrow.Author.Tests.{not-true, not-false}
 use borrow.Author.Needs.{needs}
+use Rattle.calls.specs.Ways.{shape-long}
 use Rattle.image_text.proofs.Shown.{Shown, tiled-shown}
 use Rattle.image_text.proofs.Heaps.{heap-short, heap-long}
 use Rattle.image_text.proofs.whole.put_heap.Statement.{statement}
@@ -17,8 +18,8 @@ shown d =
     let s = start d in
     tiled-shown (s .args .v) (s .args .arena .now) (s .args .control .now) (s .args .x) (s .pre .0) (sym (d .before .tiled .ensures) ∙ not-false _ (d .if1 .left))
 
-put-head-requires : tie.Need-put-head-requires
-put-head-requires c κs = search needs
+put-first-requires : tie.Need-put-first-requires
+put-first-requires c κs = let s = c .before .before .before .before in (search needs, shape-long (s .args .arena .now) (s .args .control .now) (s .pre .0 .shape))
 
 put-audit-requires : tie.Need-put-audit-requires
 put-audit-requires c κs = search needs
@@ -36,7 +37,7 @@ returns c =
     let h = x .before .before .before .before in
     let s = h .before .before .before .before .before in
     let no = sym (t .tiled .ensures) ∙ not-true _ (c .if1 .taken) in
-    (search needs, heap-short (s .args .v) (s .args .arena .now) (s .args .control .now) (s .args .x) no (h .put-head .ensures .1) (x .put-audit .ensures .1))
+    (search needs, heap-short (s .args .edition) (s .args .v) (s .args .arena .now) (s .args .control .now) (s .args .x) no (h .put-first .ensures .1) (x .put-audit .ensures .1))
 
 slice-aggregate-read-words : tie.Need-slice-aggregate-read-words
 slice-aggregate-read-words c = search needs
@@ -65,7 +66,7 @@ returns-2 c =
     let s = h .before .before .before .before .before in
     let yes = sym (i .before .tiled .ensures) ∙ not-false _ (i .if1 .left) in (
       omega (arith, shown i .arena .small),
-      heap-long (s .args .v) (s .args .arena .now) (s .args .control .now) (s .args .x) _ yes (h .put-head .ensures .1) (x .put-audit .ensures .1) (r .read-words .ensures)
+      heap-long (s .args .edition) (s .args .v) (s .args .arena .now) (s .args .control .now) (s .args .x) _ yes (h .put-first .ensures .1) (x .put-audit .ensures .1) (r .read-words .ensures)
           (p .put-reached .ensures .1),
     )
 
@@ -73,7 +74,7 @@ pub put-heap-spec : {M : Type 1} → statement M
 put-heap-spec =
     tie.close
     (tie.spec
-    put-head-requires
+    put-first-requires
     put-audit-requires
     tiled-requires
     same-length

@@ -44,7 +44,7 @@ returns c =
     let l = n .length-in in
     let lent : Lent (s .args .file .now) (take (l .result) (s .args .arena .now)) (s .args .control .now) =
     record { arena = λ h k. simp length-take (omega (arith, l .ensures .0, l .ensures .1 h k, s .pre .0)); long = s .pre .1 .0 } in
-    (p .put-reading .ensures .0, p .put-reading .ensures .1 ∙ read-text _ _ _ _ _ _ lent (r .read-image .ensures))
+    (p .put-reading .ensures .0, p .put-reading .ensures .1 ∙ read-text _ (s .args .edition) _ _ _ _ _ lent (r .read-image .ensures))
 
 pub put-image-spec : {M : Type 1} → statement M
 put-image-spec =

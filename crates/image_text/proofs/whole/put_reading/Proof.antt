@@ -19,7 +19,7 @@ returns c =
     let w = c .before .before in
     let x = w .before .before in
     let s = x .before .before .before .before .before .before in
-    (search needs, text-of (versionIn (s .args .file .now)) (s .args .arena .now) (s .args .control .now) (x .enum-told .given .1) (w .put-question .ensures .1))
+    (search needs, text-of (s .args .edition) (versionIn (s .args .file .now)) (s .args .arena .now) (s .args .control .now) (x .enum-told .given .1) (w .put-question .ensures .1))
 
 enum-told-2 : tie.Need-enum-told-2
 enum-told-2 c = search needs
@@ -35,7 +35,7 @@ returns-2 c =
     let w = c .before .before in
     let x = w .before .before in
     let s = x .before .before .before .before .before .before in
-    (search needs, text-of (versionIn (s .args .file .now)) (s .args .arena .now) (s .args .control .now) (x .enum-told2 .given .1) (w .put-question2 .ensures .1))
+    (search needs, text-of (s .args .edition) (versionIn (s .args .file .now)) (s .args .arena .now) (s .args .control .now) (x .enum-told2 .given .1) (w .put-question2 .ensures .1))
 
 enum-told-3 : tie.Need-enum-told-3
 enum-told-3 c = search needs
@@ -51,7 +51,7 @@ returns-3 c =
     let w = c .before .before in
     let x = w .before .before in
     let s = x .before .before .before .before .before .before in
-    (search needs, text-of (versionIn (s .args .file .now)) (s .args .arena .now) (s .args .control .now) (x .enum-told3 .given .1) (w .put-question3 .ensures .1))
+    (search needs, text-of (s .args .edition) (versionIn (s .args .file .now)) (s .args .arena .now) (s .args .control .now) (x .enum-told3 .given .1) (w .put-question3 .ensures .1))
 
 enum-known-x : tie.Need-enum-known-x
 enum-known-x c = search needs
@@ -78,7 +78,7 @@ returns-4 c =
     let v = w .before in
     let x = v .before .before .before in
     let s = x .before .before .before .before .before .before in
-    (search needs, heap-of (s .args .file .now) (s .args .arena .now) (s .args .control .now) (x .x .given .1) (v .version-in .ensures) (w .put-heap .ensures .1))
+    (search needs, heap-of (s .args .edition) (s .args .file .now) (s .args .arena .now) (s .args .control .now) (x .x .given .1) (v .version-in .ensures) (w .put-heap .ensures .1))
 
 pub put-reading-spec : {M : Type 1} → statement M
 put-reading-spec =
