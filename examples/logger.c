@@ -36,7 +36,8 @@ static uint8_t record[HEAP_RECORD_BYTES];
 
 static const char *const refusal[] = {
     "done",         "bad shape",     "request too large",
-    "heap unsound", "no such block", "no room"
+    "heap unsound", "no such block", "no room",
+    [HEAP_NO_EDITION] = "no such edition"
 };
 
 static struct heap_answer grant(uint64_t n)
