@@ -2,6 +2,8 @@
 // told: an older image is held against the rules of its own. Linear in the arena: each tile is read twice, each chunk of a list once, and one of unsorted or
 // of a bin of large chunks once more, for its skip links. The walks over the tiles stand in the crate audit_walks, the marks in call_look.rt.
 // Assumes nothing.
+#![tactic(auto)]
+
 mod lists; // lists.rt: the nested loop over lists and chunks
 mod call_look; // call_look.rt: what a call finds before it writes
 
@@ -17,7 +19,7 @@ use machine::Audited;
 use sizes::{Chunk, MIXED, PLAIN};
 
 // What a call finds before it writes.
-#[derive(Drop)]
+#[derive(Clone, Copy)]
 pub enum Look {
     Faulty(Audited),
     NotLive,

@@ -1,4 +1,6 @@
 // Lists that are empty by the record's words alone: most are so, and nothing else of them is looked at. Assumes nothing.
+#![tactic(auto)]
+
 ghost use Rattle.std.specs.Prelude.{◌≡◌, true, ◌+◌, ◌≤◌, length};
 ghost use Rattle.sizes.specs.Limits.{none32};
 ghost use Rattle.audit_empty_lists.specs.Skips.{four_and, four_or, AllFrom, Skipped};

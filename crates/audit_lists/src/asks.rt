@@ -11,7 +11,7 @@ use sizes::Chunk;
 const KEYED_FROM: u32 = 2;
 
 // Whether each is asked, and the key that it must then have.
-#[derive(Drop)]
+#[derive(Clone, Copy)]
 pub struct Asked {
     pub keyed: bool,
     pub key: u64,

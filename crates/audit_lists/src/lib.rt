@@ -1,5 +1,7 @@
 // What the audit asks of one list, each against its definition in the machine: its kind, its mark, how its links are stored, its head and end in the
 // record, the sizes it owns, the key of its chunks, their skip links, whether a chunk was met. The loop over them stands in the crate audit. Assumes nothing.
+#![tactic(auto)]
+
 mod owns; // owns.rt: which sizes a list owns
 mod asks; // asks.rt: which key a cached chunk is asked for
 mod stands; // stands.rt: whether a chunk may stand in a list

@@ -7,7 +7,7 @@ use machine::ListKind;
 use sizes::{LAST_BIN, LEAST_CHUNK, MOST_FAST, UNSORTED};
 
 // From the least to the most; none where the least is above the most.
-#[derive(Drop)]
+#[derive(Clone, Copy)]
 pub struct Owned {
     pub least: u64,
     pub most: u64,

@@ -1,5 +1,7 @@
 // Which list reaches a chunk: each list is walked up to its first bad chunk, in the audit's order and by the audit's own tests (crate audit_lists). Linear in
 // the arena. Assumes nothing.
+#![tactic(auto)]
+
 ghost use Rattle.std.specs.Prelude.{◌≡◌, ◌+◌, ◌<◌, eqb, length, get_or};
 ghost use Rattle.le.specs.Arena.{arena_words};
 ghost use Rattle.sizes.specs.Limits.{none64};

@@ -1,5 +1,7 @@
 // The calls: open, grant, release, resize, emptying, joining, audit, on arena bytes, control record bytes and a number. Each is the machine's call on the
 // same bytes, refusals included, on any input: none has a `requires`. Assumes nothing.
+#![tactic(auto)]
+
 mod shape; // shape.rt: the allowed lengths
 mod call_open; // call_open.rt
 mod call_grant; // call_grant.rt

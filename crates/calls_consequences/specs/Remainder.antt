@@ -9,7 +9,7 @@ use Rattle.sizes.specs.Limits.{none64, none32, most_cached, cache_room, most_fas
 use Rattle.sizes.specs.Sizes.{cache_of, fast_of, bin_of}
 use Rattle.machine.specs.Lists.{both, hd, lst, some?, cnt}
 use Rattle.machine.specs.Heap.{Heap, stack, cache, fast_at, fast, bin, any_fast?, top_of, top_size, size_of, p_of, next, before, binned, bin_has}
-use Rattle.machine.specs.Writes.{Write, apply, Ran, ran, heap_of, writes, does, giving, more, ◌>>=◌, ◌orElse◌}
+use Rattle.machine.specs.Writes.{Write, apply, Ran, ran, heap_of, writes, does, giving, more, ◌>>=◌, ◌or_else◌}
 use Rattle.machine.specs.Primitives.{push, pop, push_cache, take_cache, link_in, put_first, unlink, clear_p, set_p, to_top, cut_top, set_remainder, widen, trim_at, grow_top}
 use Rattle.machine.specs.Release.{absorb, join_next, put_down, join, drain, drains, consolidate, joined, release_past, release, emptying, joining}
 use Rattle.machine.specs.Grant.{room_for?, step1, move_fast, step2, take_last, move_lasts, step3, step4, split, front, behind, sort_in, lone?, split_lone, keep, turn_at, turn, swept, after_turn, sweep, step5, carve, step8, fit, step6, first_bin, step7, step9, pass, again, from4, seek, grant}

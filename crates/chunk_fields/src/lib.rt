@@ -1,5 +1,7 @@
 // The one place that knows where a field of a chunk lies in the arena, and how a link, a size word and the key are written there and in the record.
 // Each write of a field is a write of the machine.
+#![tactic(auto)]
+
 mod keys; // keys.rt: the record's key
 mod links; // links.rt: the two ways of writing 'none'
 mod mixing; // mixing.rt: links as an edition stores them
@@ -17,7 +19,7 @@ pub use mixing::{edition_in, set_stack_link, stack_link_at};
 use sizes::{Chunk, SizeWord};
 
 // A link of the arena: a chunk's offset, or NONE64 for the end.
-#[derive(Drop)]
+#[derive(Clone, Copy)]
 pub struct Link(pub u64);
 
 // The size word of the chunk at c, and the size in it.

@@ -1,4 +1,6 @@
 // Consolidate: each fast list emptied from its head, each chunk joined. Assumes nothing.
+#![tactic(auto)]
+
 ghost use Rattle.std.specs.Prelude.{◌≡◌, ◌<◌, length};
 ghost use Rattle.le.specs.Arena.{arena_words};
 ghost use Rattle.machine.specs.Heap.{fast_at};

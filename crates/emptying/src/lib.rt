@@ -1,4 +1,6 @@
 // Emptying: each cache list from its head, each chunk released past the cache. Assumes nothing.
+#![tactic(auto)]
+
 ghost use Rattle.std.specs.Prelude.{◌<◌};
 ghost use Rattle.le.specs.Arena.{arena_words};
 ghost use Rattle.machine.specs.Primitives.{take_cache};

@@ -3,7 +3,7 @@
 use Rattle.std.specs.Prelude.{◌≡◌, List, ℕ}
 use Rattle.std.proofs.Common.{subst}
 use Rattle.machine.specs.Heap.{Heap}
-use Rattle.machine.specs.Writes.{Ran, ran, apply, heap_of, ◌>>=◌, ◌orElse◌}
+use Rattle.machine.specs.Writes.{Ran, ran, apply, heap_of, ◌>>=◌, ◌or_else◌}
 use Rattle.machine.specs.declared.{Got.Got, Got.TheVariants.At, Got.TheVariants.Nothing}
 use Rattle.sound.specs.Relation.{Mem, Good}
 use Rattle.sound.specs.Ends.{Ends, ends_more}

@@ -1,4 +1,6 @@
 // Grant: document 01's steps 1 to 9 in their order, each where those before it found nothing. Steps 4 and 9 stand here, the others in crates of their own.
+#![tactic(auto)]
+
 mod step_4; // step_4.rt
 mod step_9; // step_9.rt: the top
 

@@ -1,4 +1,6 @@
 // Document 01's step 5: the unsorted chunks, from the last, are granted, cached or binned.
+#![tactic(auto)]
+
 mod sort; // sort.rt: where a chunk goes that was taken out
 
 ghost use Rattle.std.specs.Prelude.{◌≡◌, ◌+◌, ◌%◌, ◌≤◌, ◌<◌, length};

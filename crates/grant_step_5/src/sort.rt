@@ -14,7 +14,7 @@ use primitives::{cache_takes, link_in, push_cache, put_first};
 use sizes::{Chunk, LARGE, NONE64};
 
 // The neighbours that a newcomer gets in a bin; NONE64 where there is none.
-#[derive(Drop)]
+#[derive(Clone, Copy)]
 pub struct Neighbours {
     pub p: Link,
     pub n: Link,

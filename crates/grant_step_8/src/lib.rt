@@ -1,4 +1,6 @@
 // A split, and document 01's step 8: a chunk that is large enough leaves its bin and is given, whole or in part.
+#![tactic(auto)]
+
 ghost use Rattle.std.specs.Prelude.{◌≡◌, ℕ, ◌+◌, ◌%◌, ◌≤◌};
 ghost use Rattle.le.specs.Arena.{arena_words};
 ghost use Rattle.machine.specs.Heap.{Heap};
@@ -14,7 +16,7 @@ use primitives::{put_first, set_p, unlink};
 use sizes::{Chunk, LEAST_CHUNK, REMAINDER_WORD, UNSORTED};
 
 // What becomes of a rest, which goes first in unsorted: nothing more, or it is the last remainder too.
-#[derive(Drop)]
+#[derive(Clone, Copy)]
 pub enum Rest {
     Plain,
     LastRemainder,

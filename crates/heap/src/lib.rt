@@ -1,5 +1,7 @@
 // The calls as C sees them: arena bytes, control record bytes and a number or two, answered by three numbers. Each is the machine's call on the same bytes, with
 // document 01's numbers for its answer; include/heap.h says the same in C's words.
+#![tactic(auto)]
+
 ghost use Rattle.std.specs.Prelude.{◌≡◌};
 ghost use Rattle.machine.specs.Calls.{fault_numbers, list_numbers, open_call, grant_call, release_call, resize_call, emptying_call, joining_call, audit_call};
 ghost use Rattle.heap.specs.Exported.{back, numbered};

@@ -1,5 +1,7 @@
 // heapimage: reads an image from standard input and prints what the heap in it looks like, with -v its edition too, or with -svg a picture of it. Reading and
 // writing stand here; what is printed stands in `image_text` and `image_svg`. Assumes nothing of its own: what the reads and writes of io and the arguments of os assume, libc says.
+#![tactic(auto)]
+
 ghost use Rattle.std.specs.Prelude.{◌≡◌, ◌≤◌, length};
 
 use libc::{STDIN_FILENO, STDOUT_FILENO};
@@ -15,7 +17,7 @@ fn out_buffer() -> [u8; 1671168] {
 }
 
 // What the one argument asks for.
-#[derive(Drop)]
+#[derive(Clone, Copy)]
 enum Asked {
     Text,
     Edition,

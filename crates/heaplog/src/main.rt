@@ -1,6 +1,8 @@
 // heaplog: runs a script of calls from standard input and prints a line for each; with -o FILE it writes the image of the heap that the run leaves. Reading and
 // writing stand here; what a piece of the script does stands in `script_run`, what an image is in `image`. Assumes nothing of its own: what the reads and
 // writes of io and os assume, libc says.
+#![tactic(auto)]
+
 mod saved; // saved.rt: -o FILE
 
 ghost use Rattle.std.specs.Prelude.{◌≡◌, ◌≤◌, length};

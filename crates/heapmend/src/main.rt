@@ -1,6 +1,8 @@
 // heapmend: reads an image from standard input, mends the heap in it, and prints a line for each number that changed; with -o FILE it writes the image of the mended
 // heap, whole or not at all. Reading and writing stand here; what is printed and written stands in `repair_text`. Assumes nothing of its own: what the reads and
 // writes of io and os assume, libc says.
+#![tactic(auto)]
+
 ghost use Rattle.std.specs.Prelude.{◌≡◌, ◌≤◌, length};
 
 use libc::{STDIN_FILENO, STDOUT_FILENO};

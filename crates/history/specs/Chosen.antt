@@ -9,7 +9,7 @@ use Rattle.sizes.specs.Limits.{most_cached, cache_room, most_fast, consolidate_f
 use Rattle.sizes.specs.Sizes.{cache_of}
 use Rattle.machine.specs.Lists.{both}
 use Rattle.machine.specs.Heap.{Heap, cache, any_fast?, top_of, top_size, size_of, p_of, next, before, binned, bin_has}
-use Rattle.machine.specs.Writes.{Ran, ran, does, giving, ◌>>=◌, ◌orElse◌}
+use Rattle.machine.specs.Writes.{Ran, ran, does, giving, ◌>>=◌, ◌or_else◌}
 use Rattle.machine.specs.Primitives.{take_cache, unlink, widen, trim_at}
 use Rattle.machine.specs.Release.{absorb, join_next, put_down, join, consolidate, joined, release_past, release, emptying, joining}
 use Rattle.machine.specs.Grant.{step1, step2, step3, step4, step9, pass, again, from4, seek, grant}

@@ -12,7 +12,7 @@ use Rattle.sizes.specs.Limits.{none64, most_cached, cache_room, most_fast, conso
 use Rattle.sizes.specs.Sizes.{cache_of, fast_of, bin_of}
 use Rattle.machine.specs.Lists.{both, hd, lst, some?}
 use Rattle.machine.specs.Heap.{Heap, stack, cache, fast_at, fast, bin, any_fast?, top_of, top_size, size_of, p_of, next, before, binned}
-use Rattle.machine.specs.Writes.{Write, Ran, ran, heap_of, giving, more, ◌>>=◌, nothing, ◌orElse◌}
+use Rattle.machine.specs.Writes.{Write, Ran, ran, heap_of, giving, more, ◌>>=◌, nothing, ◌or_else◌}
 use Rattle.machine.specs.Primitives.{pop, push_cache, take_cache, unlink, set_p, cut_top, set_remainder}
 use Rattle.machine.specs.Release.{absorb, join_next, put_down, join, drain, drains, consolidate, joined, release_past, release, emptying, joining}
 use Rattle.machine.specs.Grant.{room_for?, step1, move_fast, step2, take_last, move_lasts, step3, step4, split, sort_in, lone?, split_lone, keep, turn_at, turn, swept, after_turn, sweep, step5, carve, step8, fit, step6, first_bin, step7, step9, pass, again, from4, seek, grant}

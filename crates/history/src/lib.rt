@@ -1,6 +1,8 @@
 // Histories of calls and holders' writes, and what every one of them comes to: specs/Theorem.antt has demand 3. The code performs a history's calls by the
 // exported calls, and answers C's three numbers.
 // Assumes nothing.
+#![tactic(auto)]
+
 ghost use Rattle.std.specs.Prelude.{◌≡◌};
 ghost use Rattle.heap.specs.Exported.{back, numbered};
 ghost use Rattle.history.specs.Performed.{call_of};
@@ -8,7 +10,7 @@ ghost use Rattle.history.specs.Performed.{call_of};
 use machine::HeapAnswer;
 
 // A call of a history, with its numbers.
-#[derive(Drop)]
+#[derive(Clone, Copy)]
 pub enum Call {
     Grant(u64),
     Release(u64),

@@ -1,5 +1,7 @@
 // A heap in a file: written to and read from lent bytes. Each is the definition's call on the same bytes, refusals included, on any input: none has a
 // `requires`. Assumes nothing.
+#![tactic(auto)]
+
 mod write; // write.rt
 mod read; // read.rt
 
@@ -42,7 +44,7 @@ pub fn record_bytes(v: u16) -> usize
 }
 
 // What a reading answers: the audit of the heap that was read, or why it is refused, in the order in which it is tested: document 02's numbers 6, 7 and 1.
-#[derive(Drop)]
+#[derive(Clone, Copy)]
 pub enum Reading {
     NoMark,
     NoVersion,

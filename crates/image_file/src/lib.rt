@@ -1,5 +1,7 @@
 // -o FILE: a file that is written whole or not at all, under a temporary name beside it, then renamed. What goes wrong is said on standard error, and nothing
 // else is written there. Assumes nothing of its own: what os and io assume, libc says.
+#![tactic(auto)]
+
 ghost use Rattle.std.specs.Prelude.{◌≡◌, ◌≤◌, length};
 
 use text::put_bytes;

@@ -1,4 +1,6 @@
 // An image of version 1 is read: the record's key goes into each cached chunk, which the rules of version 1 do not ask for. Assumes nothing.
+#![tactic(auto)]
+
 ghost use Rattle.std.specs.Prelude.{◌≡◌, ◌<◌};
 ghost use Rattle.le.specs.Arena.{arena_words};
 ghost use Rattle.machine.specs.Heap.{Heap, stack};

@@ -1,4 +1,6 @@
 // An image of version 1 or 2 is read: the bins get their skip links, which the rules of those versions do not ask for. Assumes nothing.
+#![tactic(auto)]
+
 ghost use Rattle.std.specs.Prelude.{◌≡◌};
 ghost use Rattle.le.specs.Arena.{arena_words};
 ghost use Rattle.sizes.specs.Limits.{unsorted};

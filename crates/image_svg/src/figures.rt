@@ -11,14 +11,14 @@ use chunk_fields::size_at;
 use sizes::{BINS_FROM, Chunk, FAST_FROM, TOP_WORD};
 use std::num::wrapping_add_u64;
 
-#[derive(Drop)]
+#[derive(Clone, Copy)]
 pub struct Share {
     pub chunks: u64,
     pub bytes: u64,
 }
 
 // largest: the size of the largest binned chunk; top: that of the top.
-#[derive(Drop)]
+#[derive(Clone, Copy)]
 pub struct Figures {
     pub live: Share,
     pub cache: Share,

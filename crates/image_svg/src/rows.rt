@@ -12,7 +12,7 @@ pub const ABOVE: u64 = 64;
 pub const PITCH: u64 = 18;
 
 // How many bytes a row shows, and how many rows there are.
-#[derive(Drop)]
+#[derive(Clone, Copy)]
 pub struct Rows {
     pub bytes: usize,
     pub count: usize,
@@ -94,7 +94,7 @@ pub fn put_rows(out: &mut [u8], from: usize, rows: Rows) -> usize
 }
 
 // Where an offset stands in the rows of an arena of n bytes: how far to the right, and in which row.
-#[derive(Drop)]
+#[derive(Clone, Copy)]
 struct Place {
     x: u64,
     row: u64,

@@ -1,4 +1,6 @@
 // Joining: consolidate, and no last remainder. Assumes nothing.
+#![tactic(auto)]
+
 ghost use Rattle.le.specs.Arena.{arena_words};
 ghost use Rattle.machine.specs.Release.{joining};
 ghost use Rattle.sound.specs.Relation.{Good};

@@ -1,5 +1,7 @@
 // Little-endian numbers in a byte slice: one of 8 or of 4 bytes, and the arena as words of 8 bytes. The record's words stand in the crate record_words.
 // In machine code a write is one store, and a read one load where the whole number is used. Assumes nothing.
+#![tactic(auto)]
+
 ghost use Rattle.std.specs.Prelude.{◌≡◌, ◌+◌, ◌*◌, ◌/◌, ◌%◌, ◌≤◌, length, get_or, set};
 ghost use Rattle.le.specs.Number.{number, put};
 ghost use Rattle.le.specs.Arena.{arena_words};

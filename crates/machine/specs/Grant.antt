@@ -4,7 +4,7 @@ use Rattle.sizes.specs.Limits.{none64, most_cached, cache_room, most_fast, large
 use Rattle.sizes.specs.Sizes.{cache_of, fast_of, bin_of}
 use Rattle.machine.specs.Lists.{both, hd, lst, some?}
 use Rattle.machine.specs.Heap.{Heap, cache, fast_at, fast, bin, any_fast?, top_size, size_of, next}
-use Rattle.machine.specs.Writes.{Ran, ran, does, giving, more, ◌>>=◌, nothing, ◌orElse◌}
+use Rattle.machine.specs.Writes.{Ran, ran, does, giving, more, ◌>>=◌, nothing, ◌or_else◌}
 use Rattle.machine.specs.Primitives.{pop, push_cache, take_cache, link_in, put_first, unlink, set_p, set_note, cut_at, cut_top, set_remainder}
 use Rattle.machine.specs.Release.{consolidate}
 use Rattle.machine.specs.declared.{Got.Got, Got.TheVariants.At, Got.TheVariants.Nothing, Turn.Turn}

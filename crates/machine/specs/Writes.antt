@@ -5,7 +5,7 @@ use Rattle.machine.specs.Heap.{Heap}
 use Rattle.machine.specs.declared.{Got.Got, Got.TheVariants.At, Got.TheVariants.Nothing}
 
 infixl 10 ◌>>=◌
-infixl 8 ◌orElse◌
+infixl 8 ◌or_else◌
 -- a write of one field of the chunk c
 pub data Write : Type 0 where
   size : ℕ → ℕ → ℕ → Write  -- c's size word: a size and P
@@ -91,6 +91,6 @@ abbrev pub ◌>>=◌ : {A B : Type 0} → Ran A → (Heap → Ran B) → Ran B
 abbrev pub nothing : Heap → Ran Got
 nothing h = ran h [] Nothing
 
-abbrev pub ◌orElse◌ : Ran Got → (Heap → Ran Got) → Ran Got
-◌orElse◌ (ran h ws (At c)) f = ran h ws (At c)
-◌orElse◌ (ran h ws Nothing) f = more ws (f h)
+abbrev pub ◌or_else◌ : Ran Got → (Heap → Ran Got) → Ran Got
+◌or_else◌ (ran h ws (At c)) f = ran h ws (At c)
+◌or_else◌ (ran h ws Nothing) f = more ws (f h)

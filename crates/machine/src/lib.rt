@@ -1,10 +1,12 @@
 // The answers of the heap's calls and steps. What they mean, and the numbers that document 01 gives them, stands in specs/.
+#![tactic(auto)]
+
 ghost use Rattle.std.specs.Prelude.{◌≡◌};
 ghost use Rattle.machine.specs.Audit.{sound?};
 ghost use Rattle.machine.specs.Calls.{refusal_no, answer_numbers};
 
 // A list of the heap: cache, fast or bin, and its number.
-#[derive(Drop)]
+#[derive(Clone, Copy)]
 pub enum ListKind {
     Cache(u32),
     Fast(u32),
@@ -12,7 +14,7 @@ pub enum ListKind {
 }
 
 // What an audit answers: sound, or the first fault and its place; Shape where arena or record has no allowed length.
-#[derive(Drop)]
+#[derive(Clone, Copy)]
 pub enum Audited {
     Sound,
     Record,
@@ -23,7 +25,7 @@ pub enum Audited {
 }
 
 // Why a call is refused, in the order in which it is tested: document 01's numbers 1 to 5, and document 02's 12 of open.
-#[derive(Drop)]
+#[derive(Clone, Copy)]
 pub enum Refusal {
     Shape,
     Request,
@@ -34,7 +36,7 @@ pub enum Refusal {
 }
 
 // What open, grant, release, resize, emptying and joining answer. A grant gives a mem offset and the usable bytes from there on.
-#[derive(Drop)]
+#[derive(Clone, Copy)]
 pub enum Answer {
     Done,
     Granted { mem: u32, usable: u32 },
@@ -42,14 +44,14 @@ pub enum Answer {
 }
 
 // What a step of grant finds: a chunk, or nothing.
-#[derive(Drop)]
+#[derive(Clone, Copy)]
 pub enum Got {
     At(u32),
     Nothing,
 }
 
 // What became of one unsorted chunk in step 5, or that there was none.
-#[derive(Drop)]
+#[derive(Clone, Copy)]
 pub enum Turn {
     Granted(u32),
     Cached,
@@ -59,7 +61,7 @@ pub enum Turn {
 
 // The two answers as C sees them: the document's number and values.
 #[repr(C)]
-#[derive(Drop)]
+#[derive(Clone, Copy)]
 pub struct HeapAnswer {
     pub no: u32,
     pub mem: u32,
@@ -67,7 +69,7 @@ pub struct HeapAnswer {
 }
 
 #[repr(C)]
-#[derive(Drop)]
+#[derive(Clone, Copy)]
 pub struct HeapFault {
     pub no: u32,
     pub kind: u32,

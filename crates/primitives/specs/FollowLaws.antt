@@ -3,7 +3,7 @@ use Rattle.std.specs.Prelude.{◌≡◌, refl, List, [], ℕ, get_or}
 use Rattle.std.proofs.Common.{sym, ap, ◌∙◌, subst, arith}
 use Rattle.sizes.specs.Layout.{length_word, top_word}
 use Rattle.machine.specs.Heap.{Heap, top_of, record_of}
-use Rattle.machine.specs.Writes.{Write, Ran, ran, heap_of, writes, apply, giving, more, ◌>>=◌, ◌orElse◌}
+use Rattle.machine.specs.Writes.{Write, Ran, ran, heap_of, writes, apply, giving, more, ◌>>=◌, ◌or_else◌}
 use Rattle.machine.specs.declared.{Got.Got, Got.TheVariants.At, Got.TheVariants.Nothing}
 use Rattle.sound.specs.Relation.{Shape, Mem, Good}
 use Rattle.sound.specs.Frames.{apply-append}

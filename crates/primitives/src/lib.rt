@@ -1,4 +1,6 @@
 // The machine's primitives on lists and flags as code, on the arena's bytes and the record's words.
+#![tactic(auto)]
+
 ghost use Rattle.std.specs.Prelude.{◌≡◌, true, List, ℕ, ◌+◌, ◌%◌, ◌≤◌, ◌<◌, ◌^◌, length, get_or, set};
 ghost use Rattle.le.specs.Arena.{arena_words};
 ghost use Rattle.machine.specs.Lists.{some?, cnt};

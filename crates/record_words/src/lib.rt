@@ -1,4 +1,6 @@
 // The record's words out of its bytes, and back: all of them, or those of one cache list, where a step changed no other part of the heap. Assumes nothing.
+#![tactic(auto)]
+
 ghost use Rattle.std.specs.Prelude.{◌≡◌, ◌<◌, length};
 ghost use Rattle.le.specs.Number.{words, bytes};
 ghost use Rattle.machine.specs.Calls.{words_of};
@@ -29,7 +31,7 @@ pub fn write_words(b: &mut [u8], r: &[u32])
 }
 
 // Which of the record's words a step changed: those of one cache list, or any.
-#[derive(Drop)]
+#[derive(Clone, Copy)]
 pub enum Changed {
     CacheList(usize),
     Any,

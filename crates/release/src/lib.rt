@@ -1,4 +1,6 @@
 // Release: a chunk to the cache if that has room, and past the cache: to its fast list, or joined, after which the fast chunks may be joined too. Assumes nothing.
+#![tactic(auto)]
+
 ghost use Rattle.std.specs.Prelude.{ℕ};
 ghost use Rattle.le.specs.Arena.{arena_words};
 ghost use Rattle.machine.specs.Writes.{giving};
@@ -16,7 +18,7 @@ use release_join::join;
 use sizes::{CONSOLIDATE_FROM, Chunk, MOST_FAST};
 
 // What came of a chunk when the cache was tried: it is on that list, or there was no room and nothing was done.
-#[derive(Drop)]
+#[derive(Clone, Copy)]
 pub enum Offered {
     On(usize),
     NoRoom,

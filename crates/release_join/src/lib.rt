@@ -1,4 +1,6 @@
 // Join: a chunk that is loose takes in its free neighbours, and becomes the top or goes first in unsorted.
+#![tactic(auto)]
+
 ghost use Rattle.std.specs.Prelude.{◌≡◌, ℕ};
 ghost use Rattle.le.specs.Arena.{arena_words};
 ghost use Rattle.machine.specs.Release.{absorb, join_next, put_down, join};

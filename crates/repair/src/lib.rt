@@ -1,5 +1,7 @@
 // The repair: a heap whose record and tiles are sound, mended in its lists and flags. Each list is walked up to its first bad chunk by the audit's own tests (crate
 // audit_reached); what is reached is free, all else but the top is held. Linear in the arena. Assumes nothing.
+#![tactic(auto)]
+
 mod anew; // anew.rt: the tiles and the record anew
 mod put; // put.rt: what is free goes to unsorted
 mod mend; // mend.rt: the repair of words, and of bytes
@@ -7,7 +9,7 @@ mod mend; // mend.rt: the repair of words, and of bytes
 pub use mend::{repair, repair_by};
 
 // What a repair answers: done, or why it is refused, in the order in which it is tested: document 02's numbers 1 and 11.
-#[derive(Drop)]
+#[derive(Clone, Copy)]
 pub enum Repaired {
     Done,
     Shape,

@@ -1,1 +1,2 @@
 // Repairs on bytes, computed: no code, only theorems. Assumes nothing.
+#![tactic(auto)]

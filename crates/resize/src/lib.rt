@@ -1,4 +1,6 @@
 // Resize, in document 02's words and order, on the arena's bytes and the record's words.
+#![tactic(auto)]
+
 mod in_place; // in_place.rt: a block that keeps its place
 mod moved; // moved.rt: a new block is sought
 

@@ -1,11 +1,13 @@
 // A line of a script for heaplog: its forms, what its bytes spell, and where it may stand. The grammar stands in specs/; script_reader reads it,
 // script_format has the text that is printed. Assumes nothing.
+#![tactic(auto)]
+
 mod rules; // rules.rt: which line may stand where, and which one ends the run
 
 pub use rules::{MOST_OPENED, ends_by, in_place, letter_of};
 
 // A line of a script: open, grant, release, resize, settle (S: an emptying and a joining), or a line of another form.
-#[derive(Drop)]
+#[derive(Clone, Copy)]
 pub enum Line {
     Open(u32),
     Grant(u32),
@@ -16,7 +18,7 @@ pub enum Line {
 }
 
 // What some bytes spell: a number, or none.
-#[derive(Drop)]
+#[derive(Clone, Copy)]
 pub enum Number {
     Of(u32),
     Nothing,
@@ -26,7 +28,7 @@ pub enum Number {
 pub const KEPT_BYTES: usize = 18;
 
 // The first bytes of a line that is being read.
-#[derive(Drop)]
+#[derive(Clone, Copy)]
 pub struct LineText {
     pub text: [u8; KEPT_BYTES],
     pub len: usize,

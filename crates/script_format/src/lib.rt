@@ -1,5 +1,7 @@
 // The text that heaplog prints: the header, and a line for each call. Each function writes at a place of a lent buffer and answers the place after it.
 // Assumes nothing.
+#![tactic(auto)]
+
 ghost use Rattle.std.specs.Prelude.{◌≡◌, ◌++◌, ◌+◌, ◌≤◌, length, take};
 ghost use Rattle.script_format.specs.Format.{header, answer_text};
 

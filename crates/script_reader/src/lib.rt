@@ -1,4 +1,6 @@
 // A line of a script from its bytes: fed one by one to a text of fixed size, and read as the grammar says. Assumes nothing.
+#![tactic(auto)]
+
 ghost use Rattle.std.specs.Prelude.{◌≡◌, [], ◌∷◌, ◌++◌, ◌+◌, ◌*◌, ◌-◌, ◌≤◌, ◌<◌, length, take};
 ghost use Rattle.script.specs.Grammar.{digit?, number_of, alone, numbered, before_blank, resized, spaced, line_of, kept, kept_bytes};
 

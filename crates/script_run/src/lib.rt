@@ -1,4 +1,6 @@
 // What a line, a byte, a piece and the end of the script do: each is a step of specs/Run.antt on the same bytes. Assumes nothing.
+#![tactic(auto)]
+
 ghost use Rattle.std.specs.Prelude.{◌≡◌, ◌+◌, ◌*◌, ◌≤◌, length, take, replicate};
 ghost use Rattle.script_format.specs.Format.{header};
 ghost use Rattle.machine.specs.Calls.{after, emptying_call, joined_after};
@@ -10,7 +12,7 @@ use sizes::PLAIN;
 
 // A run between two bytes: the line that is being read, how many lines were run, how long the opened arena is, whether the run has ended, and how many
 // bytes it has printed: so many stand in the output buffer, and a step prints behind them.
-#[derive(Drop)]
+#[derive(Clone, Copy)]
 pub struct Log {
     pub text: LineText,
     pub lines: u64,

@@ -8,7 +8,7 @@ use crate::limits::{LARGE, LARGE_BIN};
 use crate::table;
 
 // A line of document 01's rule for the large bins: s / divisor up to the limit gives base + s / divisor.
-#[derive(Drop)]
+#[derive(Clone, Copy)]
 struct Row {
     divisor: u64,
     limit: u64,

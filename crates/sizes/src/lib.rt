@@ -1,5 +1,7 @@
 // Sizes and offsets: what a request needs, where a size belongs, the size word, chunk and mem offsets; the limits and the record's layout.
 // Assumes nothing.
+#![tactic(auto)]
+
 mod table; // table.rt: the bins of the sizes below 16,384
 mod bins; // bins.rt: the bin of any size
 mod layout; // layout.rt: which word of the record is what
@@ -23,7 +25,7 @@ pub use limits::{
 };
 
 // What a request needs: a chunk of a size; or it is too large, and refused with number 2.
-#[derive(Drop)]
+#[derive(Clone, Copy)]
 pub enum Needed {
     Size(u64),
     TooLarge,
@@ -73,7 +75,7 @@ pub fn fast_list(s: u64) -> usize
 }
 
 // A chunk's size with P in bit 0.
-#[derive(Drop)]
+#[derive(Clone, Copy)]
 pub struct SizeWord(pub u64);
 
 impl SizeWord {
@@ -112,10 +114,10 @@ impl SizeWord {
 }
 
 // A chunk's offset, which the lists hold, and its mem's, which callers see.
-#[derive(Drop)]
+#[derive(Clone, Copy)]
 pub struct Chunk(pub u64);
 
-#[derive(Drop)]
+#[derive(Clone, Copy)]
 pub struct Mem(pub u64);
 
 impl Chunk {

@@ -1,5 +1,7 @@
 // Skip links (document 02, (x)) as code: the ring of a large bin's list, and the words of chunks in unsorted. Each walks the list that begins at x.
 // Assumes nothing.
+#![tactic(auto)]
+
 ghost use Rattle.std.specs.Prelude.{◌≡◌, List, ℕ, ◌+◌, ◌%◌, ◌≤◌, length};
 ghost use Rattle.le.specs.Arena.{arena_words};
 ghost use Rattle.machine.specs.Writes.{apply, stand?};

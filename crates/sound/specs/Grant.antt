@@ -2,7 +2,7 @@
 -- chunk stays as it was, and a grant that finds none leaves cache lists and last remainder. Assumes nothing.
 use Rattle.std.specs.Prelude.{◌≡◌, List, ℕ, ◌%◌, ◌≤◌}
 use Rattle.machine.specs.Heap.{Heap, any_fast?}
-use Rattle.machine.specs.Writes.{◌orElse◌}
+use Rattle.machine.specs.Writes.{◌or_else◌}
 use Rattle.machine.specs.Grant.{step3, step6, step7, step9, pass, again, from4, seek, grant}
 use Rattle.sound.specs.Relation.{Mem, Good}
 use Rattle.sound.specs.Moves.{nil}

@@ -1,7 +1,7 @@
 -- Steps 6, 7 and 9 of grant: the best fit in the own bin, the first bin above, the top. Each keeps a sound heap; what it gives is at least b and new among
 -- the loose. The found chunk tiled by the list's tests, or because bins rise with sizes. Assumes nothing.
 use Rattle.std.specs.Prelude.{◌≡◌, refl, List, [], ◌∷◌, ◌⊎◌, Bool, true, eqb, ltb, leb}
-use Rattle.std.proofs.Common.{sym, ap, ◌∙◌, inl, inr, not-suc-le-zero, arith, eqb-true, ltb-false, leb-true}
+use Rattle.std.proofs.Common.{sym, ap, ◌∙◌, subst, inl, inr, not-suc-le-zero, arith, eqb-true, ltb-false, leb-true}
 use Rattle.std.proofs.Math.Logic.{⊎_elim}
 use Rattle.std.proofs.Math.Bool.{false}
 use Prim.Native.Nat.{ℕ, zero, suc, ◌+◌, ◌-◌, ◌%◌, ◌≤◌, min}
@@ -45,7 +45,7 @@ equals-has f z (x ∷ l) c m = go (λ k. equals-has f z l c k) (eqb (f x) z) ref
         → 1 ≤ cnt c (elim t [ true ↦ x ∷ equals f z l | false ↦ equals f z l ])
         → (1 ≤ cnt c (x ∷ l)) × (f c ≡ z)
     go r true e m = ⊎_elim
-        (λ (q : c ≡ x). (rw q (cnt-here x l), ap f q ∙ eqb-true (f x) z e))
+        (λ (q : c ≡ x). (subst (λ (k : ℕ). 1 ≤ cnt k (x ∷ l)) (sym q) (cnt-here x l), ap f q ∙ eqb-true (f x) z e))
         (λ (q : c ≡ x → ⊥). let k = r (omega (arith, ind-other c x q)) in (omega (arith, k.0), k.1))
         (eq? c x)
     go r false e m = let k = r m in (omega (arith, k.0), k.1)

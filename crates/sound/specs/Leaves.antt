@@ -3,7 +3,7 @@
 use Rattle.std.specs.Prelude.{◌≡◌, refl, List, [], Bool, true, false, ℕ, ◌+◌, ◌≤◌, ◌<◌}
 use Rattle.std.proofs.Common.{sym, ◌∙◌, subst, arith}
 use Rattle.machine.specs.Heap.{Heap, stack, size_of}
-use Rattle.machine.specs.Writes.{apply, Ran, heap_of, writes, giving, more, ◌>>=◌, nothing, ◌orElse◌, ran}
+use Rattle.machine.specs.Writes.{apply, Ran, heap_of, writes, giving, more, ◌>>=◌, nothing, ◌or_else◌, ran}
 use Rattle.sound.specs.Relation.{Mem, Loose, Good}
 use Rattle.sound.specs.Frames.{apply-append}
 use Rattle.sound.specs.Ends.{Ends}

@@ -1,5 +1,7 @@
 // Text in a lent buffer: bytes, decimal numbers, and the line `? k`. Each function writes at a place of the buffer and answers the place after it. Assumes
 // nothing.
+#![tactic(auto)]
+
 ghost use Rattle.std.specs.Prelude.{◌≡◌, [], ◌∷◌, ◌++◌, ◌+◌, ◌≤◌, ◌<◌, length, take};
 ghost use Rattle.text.specs.Text.{decimal, field, question_text};
 

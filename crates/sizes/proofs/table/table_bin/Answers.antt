@@ -4,15 +4,8 @@ use Prim.Native.Nat.{◌*◌}
 use borrow.Author.Rules.{rules}
 use Rattle.sizes.specs.Sizes.{large_bin, bin_of}
 use Rattle.sizes.proofs.Filled.{get_d-filled}
-use Rattle.sizes.proofs.table.table_bin.Statement.{statement}
-use Rattle.sizes.proofs.table.table_bin.Tie as tie
+use Rattle.sizes.proofs.table.table_bin.Goals as goal
 
-array-read-result : tie.Need-array-read-result
-array-read-result c = search rules
-
-returns : tie.Need-returns
+pub returns : goal.returns
 unfolding large_bin bin_of
 returns c = get_d-filled (λ k. bin_of (16 * k)) 1024 c.args.k (search rules)
-
-pub table-bin-spec : {M : Type 1} → statement M
-table-bin-spec = tie.close (tie.spec array-read-result returns)

@@ -1,0 +1,11 @@
+-- `sizes::bins::bin_on` meets its contract: the test opens the definition. Assumes nothing.
+use borrow.Author.Tests.{le-leb, lt-leb}
+use borrow.Author.Rules.{rules}
+use Rattle.sizes.specs.Rows.{bin_on}
+use Rattle.sizes.proofs.bins.bin_on.Goals as goal
+
+pub returns-then-q-row : goal.returns-then-q-row
+returns-then-q-row c = simp (bin_on, le-leb _ _ c.if-q-row.true)
+
+pub returns : goal.returns
+returns c = simp (bin_on, lt-leb _ _ c.if-q-row.false)

@@ -1,0 +1,22 @@
+-- `sizes::bins::least_on` meets its contract: the test opens the definition, and the product is at most that of the divisor and 126. Assumes nothing.
+use Prim.Native.Nat.{◌-◌}
+use native.Mathlib.Omega.{arith}
+use native.Mathlib.Nat.{mul-le-mul_left}
+use borrow.Author.Tests.{le-leb, lt-leb}
+use borrow.Author.Rules.{rules}
+use Rattle.sizes.specs.Rows.{least_on}
+use Rattle.sizes.proofs.bins.least_on.Goals as goal
+
+pub returns-then-row-k : goal.returns-then-row-k
+returns-then-row-k c = simp (least_on, lt-leb _ _ c.if-row-k.true)
+
+pub overflow_mul-least : goal.overflow_mul-least
+overflow_mul-least c =
+    let m = mul-le-mul_left {m = c.args.k - c.args.row.base} {n = 126} c.args.row.divisor (omega arith) in
+    record { fits = omega (arith, m, c.requires.2) }
+
+pub returns-then-least-begins : goal.returns-then-least-begins
+returns-then-least-begins c = simp (least_on, le-leb _ _ c.if-row-k.false) (omega (arith, c.if-least-begins.true))
+
+pub returns : goal.returns
+returns c = simp (least_on, le-leb _ _ c.if-row-k.false) (omega (arith, c.if-least-begins.false))
