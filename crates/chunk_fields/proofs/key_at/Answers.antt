@@ -1,0 +1,14 @@
+-- `chunk_fields::key_at` meets its contract: the key of a cached chunk stands 24 bytes, which is 3 words, behind its start. Assumes nothing.
+use mathlib.Core.Path.{◌≡◌, ap, ◌∙◌}
+use Prim.Native.Nat.{◌+◌, ◌/◌}
+use native.Mathlib.Omega.{arith}
+use lib.ListN.{get_or}
+use Rattle.le.specs.Arena.{arena_words}
+use borrow.Author.Rules.{rules}
+use Rattle.chunk_fields.proofs.key_at.Goals as goal
+
+pub returns : goal.returns
+returns c =
+    let a = c.args in
+    let e : (a.c.0 + 24) / 8 ≡ a.c.0 / 8 + 3 = omega arith in
+    c.word.ensures ∙ ap (λ k. get_or (arena_words a.a.now) k 0) e
