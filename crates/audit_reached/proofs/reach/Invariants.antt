@@ -1,0 +1,17 @@
+-- `reach` meets its contract: the loop keeps Before, from the marks of the tile walk on; the measure is the lists to come. Assumes nothing.
+use mathlib.Core.Path.{◌≡◌, refl, sym, ◌∙◌}
+use mathlib.Core.Logic.{⊎_elim}
+use Prim.Native.Nat.{◌-◌, ◌≤◌}
+use native.Mathlib.Omega.{arith}
+use lib.ListN.{length}
+use borrow.Author.Tests.{eqb-true, not-false}
+use borrow.Author.Rules.{rules}
+use Rattle.le.specs.Arena.{arena_words}
+use Rattle.audit_reached.specs.ReachTurn.{Before, lists-enter, list-empty, lists-done}
+use Rattle.audit_reached.proofs.reach.Given as goal
+
+abbrev pub invariant-loop-i : goal.invariant-loop-i
+invariant-loop-i l = (length l.m ≡ length l.initial.m) × (l.i ≤ 200) × Before l.v (arena_words l.a) l.r l.m l.i
+
+abbrev pub decreases-loop-i : goal.decreases-loop-i
+decreases-loop-i l = 200 - l.i

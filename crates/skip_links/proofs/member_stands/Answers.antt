@@ -1,0 +1,20 @@
+-- `skip_links::member_stands` meets its contract: by whether the sizes are equal. Assumes nothing.
+use mathlib.Core.Path.{sym, ap, ◌∙◌}
+use mathlib.Core.List.{List}
+use borrow.Author.Rules.{rules}
+use Rattle.le.specs.Arena.{arena_words}
+use Rattle.machine.specs.Writes.{Write, stand?}
+use Rattle.skip_links.specs.RingTurn.{member-same, member-other}
+use Rattle.skip_links.proofs.member_stands.Goals as goal
+
+pub returns-then-size_at : goal.returns-then-size_at
+returns-then-size_at c =
+    let a = c.args in
+    let m = (member-same _ _ a.q.0 a.c.0 (sym c.size_at.ensures ∙ c.if-size_at.true ∙ c.size_at-2.ensures)).1 in
+    c.has_no_skips.ensures ∙ sym (ap (λ (es : List Write). stand? es (arena_words a.a.now)) m)
+
+pub returns : goal.returns
+returns c =
+    let a = c.args in
+    let m = (member-other _ _ a.q.0 a.c.0 (λ e. c.if-size_at.false (c.size_at.ensures ∙ e ∙ sym c.size_at-2.ensures))).1 in
+    c.linked.ensures ∙ sym (ap (λ (es : List Write). stand? es (arena_words a.a.now)) m)
