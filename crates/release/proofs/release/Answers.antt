@@ -1,0 +1,18 @@
+-- `release::release` meets its contract: on the cache, and then its list's two words alone changed; or past it. Assumes nothing.
+use Rattle.release.specs.Release.{on-gave, past-has, past-does}
+use borrow.Author.Rules.{rules}
+use Rattle.release.proofs.release.Goals as goal
+
+pub to_cache-offered-requires : goal.to_cache-offered-requires
+to_cache-offered-requires c = record { heap = c.requires.heap; ok = c.requires.ok; holds = c.requires.holds.1 }
+
+pub release_past-requires : goal.release_past-requires
+release_past-requires c = past-has _ _ _ _ _ _ c.to_cache-offered.ensures c.in_default.is c.requires
+
+pub returns : goal.returns
+returns c = record { does = past-does _ _ _ _ _ _ c.to_cache-offered.ensures c.in_default.is c.release_past.ensures; changes = tt }
+
+pub returns-in-On : goal.returns-in-On
+returns-in-On c =
+    let on = on-gave _ _ _ _ _ _ _ c.to_cache-offered.ensures c.in-On.is in
+    record { does = on.0; changes = on.1 }
