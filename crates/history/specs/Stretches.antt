@@ -41,6 +41,7 @@ pub record Whose (z : ℕ → ℕ) (bs : List Block) (x : ℕ) : Type 0 where
   pub high : x + 16 < mem + z (mem - 16)
 
 pub held_out : (z : ℕ → ℕ) (bs : List Block) (x : ℕ) → Sized z bs → Held bs x → Whose z bs x
+held_out z [] x k i = elim i [ ]
 held_out z (b ∷ bs) x k (here i) = record { mem = b.mem; held = omega (arith, ind-same b.mem); low = i.0; high = omega (arith, k.0, i.1) }
 held_out z (b ∷ bs) x k (there i) =
     let W = held_out z bs x k.1 i in
