@@ -9,38 +9,44 @@
 #   image_to_write TEXT WORDS..   ends it where WORDS are neither none nor -o and a FILE to write; TEXT says what comes on standard input
 #   run_writing WORDS..           runs the program, and says so where the image was not written; its status is the launcher's
 
-program=$root/target/bin/$name
+program=$root/crates/$name/out/$name
 built=$root/target/$name.built
 
 say() { echo "$name: $1" >&2; }
 
-# How many crates of crates.txt the program stands on, itself included.
-crates_in_all() {
+# The crates of crates.txt that the program stands on, in the order in which rt takes them, the program's own last.
+crates_below() {
     awk -F: -v top="$name" '
-        function count(name, names, n, i, sum) {
+        function visit(name, names, n, i) {
             if (!(name in below) || name in met)
-                return 0
+                return
             met[name] = 1
-            sum = 1
             n = split(below[name], names, " ")
             for (i = 1; i <= n; i++)
-                sum += count(names[i])
-            return sum
+                visit(names[i])
+            print name
         }
         { sub(/#.*/, "") }
-        NF > 1 { below[$1] = $2 }
-        END { print count(top) }' "$root/crates.txt"
+        NF > 1 { sub(/ .*/, "", $1); below[$1] = $2 }
+        END { visit(top) }' "$root/crates.txt"
 }
 
-# Hands on what 'rt check' prints, and says how far it is: in one line that is overwritten on a terminal, in a line for each crate otherwise.
+# Hands on what 'rt run' prints, and says how far it is: in one line that is overwritten on a terminal, in a line for each crate otherwise. A crate's last two
+# lines have its name and what is proved of it; of one that was built before, rt prints none.
 progress() {
-    in_all=$(crates_in_all)
-    proved=0
+    crates=$(crates_below)
+    in_all=$(echo "$crates" | grep -c .)
+    crate=
+    proved=
     while IFS= read -r line; do
         printf '%s\n' "$line"
         case $line in
-        'rt: '*' proved ('*)
-            proved=$((proved + 1))
+        'crate '*': modules '*)
+            crate=${line#crate }
+            crate=${crate%%:*}
+            ;;
+        'logic=proved '*)
+            proved=$(echo "$crates" | grep -nFx "$crate" | cut -d : -f 1)
             if [ -t 2 ]; then
                 printf '\r%s: %s of %s crates proved' "$name" "$proved" "$in_all" >&2
             else
@@ -49,31 +55,42 @@ progress() {
             ;;
         esac
     done
-    if [ -t 2 ] && [ "$proved" -gt 0 ]; then
+    if [ -t 2 ] && [ -n "$proved" ]; then
         echo >&2
     fi
 }
 
+# Whether the program is there, and nothing that it is made from is newer than when it was last built: by 'rt run' below, or by the gate's 'rt ci'.
+is_built() {
+    [ -x "$program" ] || return 1
+    for when in "$built" "$root/target/rt-ci.passed"; do
+        if [ -f "$when" ] \
+            && [ -z "$(find "$root/crates.txt" "$root"/crates/*/src "$root"/crates/*/specs "$root"/crates/*/proofs -newer "$when" 2>/dev/null | head -n 1)" ]; then
+            return 0
+        fi
+    done
+    return 1
+}
+
 built_program() {
+    if is_built; then
+        return
+    fi
     if ! command -v rt >/dev/null 2>&1; then
         say "no 'rt' on the PATH; install the Rattle toolchain and put its bin/ folder on the PATH"
         exit 2
     fi
+    say "proving and building the program by 'rt run' in crates/$name; the first time takes many minutes"
     # `built` is as old as the sources that the program was last built from.
-    if [ -x "$program" ] && [ -f "$built" ] \
-        && [ -z "$(find "$root/crates" "$root/crates.txt" -type f -newer "$built" 2>/dev/null | head -n 1)" ]; then
-        return
-    fi
-    say "proving and building the program with 'rt check $name'; the first time takes some minutes"
     if ! mkdir -p "$root/target" || ! : >"$built.new"; then
         say "cannot write in $root/target; make the repository writable"
         exit 2
     fi
-    # A pipe has the status of its last command alone: that of rt goes through a file.
-    { (cd "$root" && rt check "$name") </dev/null 2>&1; echo $? >"$built.status"; } | progress >"$root/target/$name.out"
+    # rt also runs the program, which ends with status 0 on no input. A pipe has the status of its last command alone: that of rt goes through a file.
+    { (cd "$root/crates/$name" && rt run) </dev/null 2>&1; echo $? >"$built.status"; } | progress >"$root/target/$name.out"
     if [ "$(cat "$built.status")" != 0 ] || [ ! -x "$program" ]; then
         tail -n 20 "$root/target/$name.out" >&2
-        say "'rt check $name' failed; its last lines stand above, all of them in target/$name.out"
+        say "'rt run' failed in crates/$name; its last lines stand above, all of them in target/$name.out"
         exit 1
     fi
     mv "$built.new" "$built"
@@ -86,7 +103,7 @@ run_program() {
         return
     fi
     # The program is for x86-64. The toolchain has an emulator, and the C library to go with it.
-    tools=$(dirname "$(dirname "$(rt doc | tail -n 1)")")/on/$(uname -m)/toolchain
+    tools=$(dirname "$(rt doc | tail -n 1)")/on/$(uname -m)/toolchain
     if [ ! -x "$tools/bin/qemu-x86_64" ]; then
         say "no emulator for x86-64 programs in $tools/bin; install the Rattle toolchain for this machine ($(uname -m))"
         exit 2

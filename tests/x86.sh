@@ -3,7 +3,7 @@
 #   x86_build OUTPUT FLAGS SOURCES-AND-ARCHIVES..    FLAGS is one word, possibly empty
 #   x86_run PROGRAM ARGUMENTS..
 
-x86_kit=$(dirname "$(dirname "$(rt doc | tail -n 1)")")
+x86_kit=$(dirname "$(rt doc | tail -n 1)")
 x86_tools=$x86_kit/on/$(uname -m)/toolchain
 
 if [ "$(uname -m)" = x86_64 ]; then
