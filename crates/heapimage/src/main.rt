@@ -1,10 +1,12 @@
 // heapimage: reads an image from standard input and prints what the heap in it looks like, with -v its edition too, or with -svg a picture of it. Reading and
-// writing stand here; what is printed stands in `image_text` and `image_svg`. Assumes nothing of its own: what the reads and writes of io and the arguments of os assume, libc says.
+// writing stand here; what is printed stands in `image_text` and `image_svg`. Assumes nothing of its own: the arguments, standard input and output are std's, and no
+// clause of std says what the system gives and takes.
 #![tactic(auto)]
 
 ghost use Rattle.std.specs.Prelude.{◌≡◌, ◌≤◌, length};
 
-use libc::{STDIN_FILENO, STDOUT_FILENO};
+use std::env::Env;
+use std::io::Read;
 
 // The longest image, and one byte more: a file that fills it is too long.
 fn file_buffer() -> [u8; 263738] {
@@ -14,6 +16,21 @@ fn file_buffer() -> [u8; 263738] {
 // Room for the longest text or picture.
 fn out_buffer() -> [u8; 1671168] {
     [0u8; 1671168]
+}
+
+// Reads until the buffer is full, the input ends or a read fails: how many bytes stand at its start.
+fn read_full(from: &mut impl Read, buf: &mut [u8]) -> usize
+    ensures { result ≤ length buf.new }
+{
+    let mut done = 0;
+    while done < buf.len() {
+        let n = from.read(&mut buf[done..]).unwrap_or(0);
+        if n == 0 {
+            break;
+        }
+        done += n;
+    }
+    done
 }
 
 // What the one argument asks for.
@@ -44,11 +61,11 @@ fn show(file: &[u8], arena: &mut [u8], control: &mut [u8], out: &mut [u8], asked
     }
 }
 
-// The first n bytes of the output buffer.
-fn write_shown(out: &[u8], n: usize)
+// The first n bytes of the output buffer. What cannot be written is lost.
+fn write_shown(to: &impl Print, out: &[u8], n: usize)
     requires { n ≤ length out.now }
 {
-    io::write_all(STDOUT_FILENO, &out[..n]);
+    let _ = to.write_all(&out[..n]);
 }
 
 fn says_v(a: &[u8]) -> bool {
@@ -78,9 +95,9 @@ fn says_svg(a: &[u8]) -> bool {
 }
 
 // -v or -svg; without either, text.
-fn asked_for() -> Asked {
-    let mut word = io::buffer();
-    let k = os::arg(1, &mut word);
+fn asked_for(rt: &impl Env) -> Asked {
+    let mut word = [0u8; 4096];
+    let k = rt.arg(1, &mut word).unwrap_or(0);
     if says_v(&word[..k]) {
         return Asked::Edition;
     }
@@ -90,13 +107,14 @@ fn asked_for() -> Asked {
     Asked::Text
 }
 
-fn main() {
+fn main(rt: HostRuntime) {
     let mut file = file_buffer();
-    let n = io::read_full(STDIN_FILENO, &mut file);
+    let mut input = rt.stdin();
+    let n = read_full(&mut input, &mut file);
     let mut arena = [0u8; 262144];
     let mut control = [0u8; 1584];
     let mut out = out_buffer();
-    let asked = asked_for();
+    let asked = asked_for(&rt);
     let m = show(&file[..n], &mut arena, &mut control, &mut out, asked);
-    write_shown(&out, m);
+    write_shown(&rt, &out, m);
 }

@@ -3,6 +3,8 @@ ghost use Rattle.std.specs.Prelude.{◌≡◌, ◌≤◌, length};
 
 use image::ARENA_AT;
 use machine::Answer;
+use std::env::Env;
+use std::fs::Files;
 
 // The image of the longest arena that heaplog opens.
 fn file_buffer() -> [u8; 50745]
@@ -12,13 +14,13 @@ fn file_buffer() -> [u8; 50745]
 }
 
 // The image of the arena goes to the file of that path, by way of the lent bytes. One of no allowed length was not opened, and its image is refused.
-fn save_image(arena: &[u8], control: &[u8], file: &mut [u8], path: &[u8])
+fn save_image<R: Files + Eprint>(rt: &R, arena: &[u8], control: &[u8], file: &mut [u8], path: &[u8])
     requires { length path.now ≤ 4096 }
 {
     let x = image::write_image(arena, control, file);
     match x {
         Answer::Done => {
-            image_file::save(path, file);
+            image_file::save(rt, path, file);
         }
         Answer::Granted { mem: _, usable: _ } => {}
         Answer::Refused(_) => {}
@@ -26,40 +28,25 @@ fn save_image(arena: &[u8], control: &[u8], file: &mut [u8], path: &[u8])
 }
 
 // The arena is the first n bytes of those lent.
-fn save_opened(arena: &[u8], control: &[u8], n: usize, path: &[u8])
+fn save_opened<R: Files + Eprint>(rt: &R, arena: &[u8], control: &[u8], n: usize, path: &[u8])
     requires arena_len { length arena.now ≡ 49152 }
     requires n_bound { n ≤ 49152 }
     requires path_len_bound { length path.now ≤ 4096 }
 {
     let mut file = file_buffer();
     let m = ARENA_AT + n;
-    save_image(&arena[..n], control, &mut file[..m], path);
-}
-
-fn says_o(a: &[u8]) -> bool {
-    if a.len() != 2 {
-        return false;
-    }
-    if a[0] != b'-' {
-        return false;
-    }
-    a[1] == b'o'
+    save_image(rt, &arena[..n], control, &mut file[..m], path);
 }
 
 // With the arguments -o and FILE, and no others.
-pub fn save_heap(arena: &[u8], control: &[u8], n: usize)
+pub fn save_heap<R: Env + Files + Eprint>(rt: &R, arena: &[u8], control: &[u8], n: usize)
     requires arena_len { length arena.now ≡ 49152 }
     requires n_bound { n ≤ 49152 }
 {
-    if os::arg_count() != 3 {
+    if !image_file::asked(rt) {
         return;
     }
-    let mut word = io::buffer();
-    let k = os::arg(1, &mut word);
-    if !says_o(&word[..k]) {
-        return;
-    }
-    let mut path = io::buffer();
-    let j = os::arg(2, &mut path);
-    save_opened(arena, control, n, &path[..j]);
+    let mut path = [0u8; 4096];
+    let j = rt.arg(2, &mut path).unwrap_or(0);
+    save_opened(rt, arena, control, n, &path[..j]);
 }
