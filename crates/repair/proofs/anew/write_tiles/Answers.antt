@@ -11,6 +11,7 @@ use Rattle.machine.specs.View.{size_at}
 use Rattle.audit_walks.specs.TileTurn.{arena-length}
 use Rattle.repair.specs.AnewTurn.{AnewIn, anew-enter, anew-low, anew-read, anew-size, anew-turn-free, anew-turn-held, anew-last}
 use Rattle.repair.proofs.anew.write_tiles.Goals as goal
+use Rattle.repair.proofs.anew.write_tiles.Goals.{then-m-o-eq-UNMET, else-m-o-eq-UNMET}
 
 pub loop-o-init : goal.loop-o-init
 loop-o-init c =
@@ -110,3 +111,21 @@ returns c =
     let len = arena-length c.args.a.now c.requires.0.arena in
     anew-last (arena_words c.args.a.now) c.args.m.now _ _ _ _ l.invariant.1 (length l.a) _ (omega (arith, len, l.invariant.0)) c.loop-o-test.false
     c.set_size.ensures
+
+pub loop-o-preserved : goal.loop-o-preserved
+loop-o-preserved c =
+    let l = c.loop-o in
+    let w = arena_words c.args.a.now in
+    let r = c.size_at-s in
+    let e : r.result ≡ size_at w l.o = r.ensures ∙ anew-read w c.args.m.now _ _ _ _ l.invariant.1 in
+    let lt = c.loop-o-test.true in
+    elim c.if-m-o-eq-UNMET.branch [
+      | then-m-o-eq-UNMET h ↦ (
+        omega (arith, ap length h.a-is, h.end_stretch.auto.a, l.invariant.0),
+        rw (h.a-is, h.g-is) (anew-turn-held w c.args.m.now _ _ _ _ l.invariant.1 _ _ e lt h.if-m-o-eq-UNMET.true h.end_stretch.ensures),
+      )
+      | else-m-o-eq-UNMET h ↦ (
+        omega (arith, ap length h.a-is, l.invariant.0),
+        rw (h.a-is, h.g-is) (anew-turn-free w c.args.m.now _ _ _ _ l.invariant.1 _ e lt h.if-m-o-eq-UNMET.false),
+      )
+    ]

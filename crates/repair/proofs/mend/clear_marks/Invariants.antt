@@ -12,7 +12,7 @@ use Rattle.sound.specs.Tiles.{lt-or-le}
 use Rattle.repair.proofs.mend.clear_marks.Given as goal
 
 abbrev pub invariant-loop-i : goal.invariant-loop-i
-invariant-loop-i l = (l.i ≤ length l.initial.m) × (length l.m ≡ length l.initial.m) × ClearTo l.i l.m
+invariant-loop-i l = (l.i ≤ length l.initial.m) × (length l.m ≡ length l.initial.m) × ((n : ℕ) → n < l.i → get_or l.m n 0 ≡ 0)
 
 abbrev pub decreases-loop-i : goal.decreases-loop-i
 decreases-loop-i l = length l.initial.m - l.i

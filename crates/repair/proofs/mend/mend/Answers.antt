@@ -47,3 +47,12 @@ put_all-requires c =
     let halves : (i : ℕ) → i < 396 → get_or c.args.r.now i 0 < 2 ^ 32 = λ i l. omega (arith, c.slice_known-4-1.given i) in
     let anew = c.write_tiles-t.ensures (free? c.args.v w c.args.r.now) (reached-told c.args.v w c.args.r.now _ c.reach.ensures) in
     anew-has c.args.v w c.args.r.now (good) small halves _ _ _ anew c.clear_lists.ensures
+
+pub returns : goal.returns
+returns c =
+    let good : Tiled (arena_words c.args.a.now) c.args.r.now = tiled-good c.args.v _ _ c.requires.2 in
+    let w = arena_words c.args.a.now in
+    let small : 8 * length w ≤ 262144 = omega (arith, length-arena_words c.args.a.now, c.requires.0.arena.small) in
+    let halves : (i : ℕ) → i < 396 → get_or c.args.r.now i 0 < 2 ^ 32 = λ i l. omega (arith, c.slice_known-4-1.given i) in
+    let anew = c.write_tiles-t.ensures (free? c.args.v w c.args.r.now) (reached-told c.args.v w c.args.r.now _ c.reach.ensures) in
+    mended-by c.args.v w c.args.r.now (good) small halves _ _ _ anew c.clear_lists.ensures _ _ c.put_all.ensures

@@ -13,6 +13,7 @@ use Rattle.primitives.specs.Follow.{Ok}
 use Rattle.repair.specs.Told.{Unlisted}
 use Rattle.repair.specs.PutTurn.{Walked, walk_start, walk_end, walk-loose, walk-gap, walk-fits, turn-held, turn-free, room}
 use Rattle.repair.proofs.put.put_all.Goals as goal
+use Rattle.repair.proofs.put.put_all.Goals.{then-not-has_p, else-not-has_p}
 
 pub loop-o-init : goal.loop-o-init
 loop-o-init c = (refl, refl, λ h o u. walk_start h _ _ _ o u)
@@ -59,3 +60,21 @@ shape_of-r c = c.loop-o.invariant.1
 
 pub returns : goal.returns
 returns c = λ h o u. walk_end (c.loop-o.invariant.2 h o u) c.loop-o-test.false
+
+pub loop-o-preserved : goal.loop-o-preserved
+loop-o-preserved c =
+    let z = c.size_at-s.ensures in
+    let x = c.size_word_at-x.ensures in
+    let b = c.has_p.ensures in
+    elim c.if-not-has_p.branch [
+      | then-not-has_p t ↦ rw (t.a-is, t.r-is, t.p-is) (
+        t.link_in.auto.a ∙ c.loop-o.invariant.0,
+        t.link_in.auto.r ∙ c.loop-o.invariant.1,
+        λ h o u. turn-free (c.loop-o.invariant.2 h o u) c.loop-o-test.true _ z x b t.if-not-has_p.true t.link_in.ensures,
+      )
+      | else-not-has_p t ↦ rw (t.a-is, t.r-is, t.p-is) (
+        c.loop-o.invariant.0,
+        c.loop-o.invariant.1,
+        λ h o u. turn-held (c.loop-o.invariant.2 h o u) c.loop-o-test.true _ z x b t.if-not-has_p.false,
+      )
+    ]

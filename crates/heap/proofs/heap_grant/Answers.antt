@@ -1,0 +1,7 @@
+-- `heap_grant`: the call, its answer as numbers. Assumes nothing.
+use Rattle.heap.specs.Exported.{back_is}
+use borrow.Author.Rules.{rules}
+use Rattle.heap.proofs.heap_grant.Goals as goal
+
+pub returns : goal.returns
+returns c = back_is _ _ _ _ c.grant-x.ensures c.answer_numbers.ensures
