@@ -4,4 +4,4 @@ use borrow.Author.Rules.{rules}
 use Rattle.heap.proofs.heap_open.Goals as goal
 
 pub returns : goal.returns
-returns c = back_is _ _ _ _ c.«open».ensures c.answer_numbers.ensures
+returns c = back_is _ _ _ _ c.open-x.ensures c.answer_numbers.ensures
