@@ -1,5 +1,5 @@
 -- What a step comes to: the heap after it, the fields it writes in order, its answer. Memory after a step is what its writes make of it. Definitions only.
-use Rattle.std.specs.Prelude.{List, [], ◌∷◌, ◌++◌, Bool, true, false, ℕ, ◌+◌, ◌/◌, eqb, get_or, set}
+use Rattle.std.specs.Prelude.{List, [], ◌∷◌, ◌++◌, Bool, true, ℕ, ◌+◌, ◌/◌, eqb, get_or, set}
 use Rattle.machine.specs.Lists.{both}
 use Rattle.machine.specs.Heap.{Heap}
 use Rattle.machine.specs.declared.{Got.Got, Got.TheVariants.At, Got.TheVariants.Nothing}

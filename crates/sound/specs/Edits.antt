@@ -5,11 +5,11 @@ use Rattle.std.proofs.Common.{sym, ap, ◌∙◌, subst, append_assoc, append-ni
 use Rattle.sizes.specs.Layout.{prev_word}
 use Rattle.machine.specs.Lists.{cnt}
 use Rattle.machine.specs.Count.{eq?, ind-other, cnt-here, cnt-there, cnt-le-all}
-use Rattle.machine.specs.Heap.{Tile, tile, Heap, with_tiles, end_from, starts_from, up_to, since, hd_size, top_of, top_size, starts, size_of, total}
+use Rattle.machine.specs.Heap.{Tile, tile, Heap, with_tiles, end_from, starts_from, top_of, top_size, starts, size_of, total}
 use Rattle.machine.specs.Writes.{Write, who, put, apply, does, size, note}
 use Rattle.machine.specs.Primitives.{swallow, clear_p, set_p, set_note, cut_at, to_top, widen, trim_at, grow_top}
 use Rattle.sound.specs.Relation.{all, tiled, tiles_at, Mem, Shape}
-use Rattle.sound.specs.Tiles.{zero_or, tiled-split, tiled-join, end-even, end-append, starts-append, Start, start, up-to, since_at, Place, place, tiles-split}
+use Rattle.sound.specs.Tiles.{zero_or, tiled-split, tiled-join, end-even, end-append, starts-append, Start, start, Place, place, tiles-split}
 use Rattle.sound.specs.Apart.{size-at, sizes-mid, sizes-same, tiled-tiles, tiles-at}
 use Rattle.sound.specs.Rings.{head-low-w, low-skips, skips-tiles}
 use Rattle.sound.specs.Frames.{end-all, Starts, Grid, grid, put-length, put_other, put_same, HeadW, retile, Within, words-mid}

@@ -1,12 +1,12 @@
 -- A block that keeps its place: the next P is set, and a rest of 32 or more is cut off and released. By a named state (Held): the block is loose, and all
 -- flags hold but those of the chunk after it. Assumes nothing.
-use Rattle.std.specs.Prelude.{◌≡◌, refl, List, [], ◌∷◌, ◌++◌, Bool, true, false, ◌⊎◌, ℕ, ◌+◌, ◌-◌, ◌%◌, ◌≤◌, ltb}
+use Rattle.std.specs.Prelude.{◌≡◌, refl, List, [], ◌∷◌, ◌++◌, Bool, true, false, ℕ, ◌+◌, ◌-◌, ◌%◌, ◌≤◌, ltb}
 use Rattle.std.proofs.Common.{sym, ap, ◌∙◌, subst, append_assoc, append-nil, inl, inr, ⊎_elim, arith}
 use borrow.Author.Tests.{eq-eqb, ne_eqb, ltb-false}
 use Rattle.sizes.specs.Limits.{least_chunk}
 use Rattle.machine.specs.Lists.{cnt}
 use Rattle.machine.specs.Count.{ind-same, ind-other}
-use Rattle.machine.specs.Heap.{Tile, tile, Heap, with_tiles, end_from, starts_from, top_of, top_size, starts, size_of, p_of, next, binned, total}
+use Rattle.machine.specs.Heap.{Tile, tile, Heap, with_tiles, end_from, starts_from, top_of, top_size, starts, size_of, next, binned, total}
 use Rattle.machine.specs.Writes.{Write, apply, Ran, heap_of, writes, does, giving, more, ◌>>=◌, ran, size}
 use Rattle.machine.specs.Primitives.{set_p, trim_at}
 use Rattle.machine.specs.Release.{release}

@@ -1,17 +1,17 @@
 -- That lists hold chunks of their own sizes, through a change of the tiles and of a bin. Chunks off the changed middle keep their sizes.
 -- Assumes nothing.
-use Rattle.std.specs.Prelude.{◌≡◌, refl, List, [], ◌∷◌, ◌++◌, ◌⊎◌, ℕ, ◌+◌, ◌≤◌, ◌<◌, length}
-use Rattle.std.proofs.Common.{sym, ap, ◌∙◌, subst, inl, inr, ⊎_elim, not-suc-le-zero, arith}
+use Rattle.std.specs.Prelude.{◌≡◌, refl, List, [], ◌∷◌, ◌++◌, ℕ, ◌+◌, ◌≤◌, ◌<◌, length}
+use Rattle.std.proofs.Common.{sym, ap, ◌∙◌, subst, inl, ⊎_elim, not-suc-le-zero, arith}
 use Rattle.sizes.specs.Sizes.{bin_of}
 use Rattle.machine.specs.Lists.{pre, post, cnt}
 use Rattle.machine.specs.Count.{eq?, ind-other, cnt-append, cnt-here, cnt-there, cnt-le-all}
-use Rattle.machine.specs.Heap.{Tile, Heap, bin, with_tiles, end_from, starts_from, since, hd_size, starts, size_of, total}
+use Rattle.machine.specs.Heap.{Tile, Heap, bin, with_tiles, end_from, size_of, total}
 use Rattle.machine.specs.Writes.{heap_of}
 use Rattle.machine.specs.Primitives.{link_in, unlink}
 use Rattle.sound.specs.Relation.{tiled, Shape, falls, Homes}
-use Rattle.sound.specs.Tiles.{zero_or, tiled-split, starts-append, Start, start, size-mid}
+use Rattle.sound.specs.Tiles.{zero_or, tiled-split}
 use Rattle.sound.specs.Frames.{set_cases}
-use Rattle.sound.specs.Apart.{size-at, sizes-mid, sizes-same, tiled-tiles}
+use Rattle.sound.specs.Apart.{sizes-mid, sizes-same, tiled-tiles}
 use Rattle.sound.specs.Lists.{cut, cut-cnt, in-range}
 
 pub falls-cong : (f g : ℕ → ℕ) (l : List ℕ) → ((x : ℕ) → 1 ≤ cnt x l → g x ≡ f x) → falls f l → falls g l

@@ -14,7 +14,7 @@ use Rattle.sizes.specs.Sizes.{cache_of, fast_of, bin_of}
 use Rattle.sizes.specs.SizesLaws.{cache_of-bound, fast_of-bound}
 use Rattle.sizes.specs.BinLaws.{bin_of-small, bin_of-large}
 use Rattle.machine.specs.Lists.{both, hd, lst, tl, some?, cnt}
-use Rattle.machine.specs.Count.{ind-same, cnt_all-set, cnt-le-all}
+use Rattle.machine.specs.Count.{ind-same, cnt-le-all}
 use Rattle.machine.specs.Heap.{Heap, stack, cache, fast_at, fast, bin, any_fast?, with_stack, starts, size_of, total}
 use Rattle.machine.specs.Writes.{apply, Ran, heap_of, writes, giving, ◌>>=◌, key, ran}
 use Rattle.machine.specs.Primitives.{pop, push_cache, take_cache}

@@ -1,16 +1,16 @@
 -- No usable word of a block is written, and the arena's first word never is: statements about writes. A link lies in its own chunk, a size word before a
 -- chunk's usable words, and a note at the end of the chunk before. Assumes nothing.
 use Rattle.std.specs.Prelude.{◌≡◌, refl, List, [], ◌∷◌, ◌++◌, ◌⊎◌, ℕ, ◌+◌, ◌/◌, ◌%◌, ◌≤◌, ◌<◌, eqb, get_or}
-use Rattle.std.proofs.Common.{sym, ap, ◌∙◌, subst, append_assoc, inl, inr, ⊎_elim, arith, get_or-set_other}
+use Rattle.std.proofs.Common.{sym, ap, ◌∙◌, inl, inr, ⊎_elim, arith, get_or-set_other}
 use Rattle.sizes.specs.Limits.{large, first_large}
 use Rattle.machine.specs.Lists.{pre, post, ind, cnt}
 use Rattle.machine.specs.Count.{eq?, ind-same, ind-other, cnt-append, cnt-le-all}
-use Rattle.machine.specs.Heap.{Tile, tile, Heap, bin, end_from, starts_from, top_size, starts, size_of}
+use Rattle.machine.specs.Heap.{Heap, bin, starts, size_of}
 use Rattle.machine.specs.Writes.{Write, who, field, value, put, apply, Ran, ran, heap_of, writes, more, ◌>>=◌, size, note}
 use Rattle.machine.specs.Primitives.{fwd_to, back_to, links_in, link_in, links_out, unlink}
 use Rattle.machine.specs.Skips.{skips_in, skips_out}
-use Rattle.sound.specs.Relation.{all, tiled, Shape, Loose}
-use Rattle.sound.specs.Tiles.{zero_or, tiled-split, starts-append, Start, start, starts-once, Place, place}
+use Rattle.sound.specs.Relation.{all, Shape, Loose}
+use Rattle.sound.specs.Tiles.{Start, start, starts-once}
 use Rattle.sound.specs.Frames.{Starts, starts-all, Sub, LinkW}
 use Rattle.sound.specs.Apart.{chunks_apart, clear_of, tiled-tiles}
 use Rattle.sound.specs.Lists.{cut-cnt, out-w, in-w}

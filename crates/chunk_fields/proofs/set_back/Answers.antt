@@ -4,7 +4,6 @@ use Prim.Native.Nat.{◌+◌, ◌/◌}
 use native.Mathlib.Omega.{arith}
 use lib.ListN.{set}
 use Rattle.le.specs.Arena.{arena_words}
-use borrow.Author.Rules.{rules}
 use Rattle.chunk_fields.proofs.set_back.Goals as goal
 
 pub returns : goal.returns

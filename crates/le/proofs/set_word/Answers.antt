@@ -2,7 +2,6 @@
 use mathlib.Core.Path.{ap, ◌∙◌}
 use Rattle.le.specs.Arena.{arena_words}
 use Rattle.le.specs.ArenaLaws.{arena_words-set}
-use borrow.Author.Rules.{rules}
 use Rattle.le.proofs.set_word.Goals as goal
 
 pub returns : goal.returns

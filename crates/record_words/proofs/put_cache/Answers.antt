@@ -6,7 +6,6 @@ use lib.ListN.{get_or}
 use Rattle.le.specs.Number.{put}
 use Rattle.sizes.specs.Layout.{cache_head, cache_count}
 use Rattle.record_words.specs.CacheOnly.{cache-only-bytes}
-use borrow.Author.Rules.{rules}
 use Rattle.record_words.proofs.put_cache.Goals as goal
 
 pub returns : goal.returns

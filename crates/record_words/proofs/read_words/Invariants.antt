@@ -1,11 +1,8 @@
 -- `record_words::read_words` meets its contract. The invariant: the words passed are the numbers of the bytes. The measure is the words left. Assumes nothing.
 use Prim.Native.Nat.{◌-◌, ◌≤◌}
 use mathlib.Core.Path.{◌≡◌}
-use native.Mathlib.Omega.{arith}
 use lib.ListN.{length}
-use Rattle.le.specs.WordsLaws.{words-ext}
-use Rattle.record_words.proofs.Passed.{Passed, passed-set}
-use borrow.Author.Rules.{rules}
+use Rattle.record_words.proofs.Passed.{Passed}
 use Rattle.record_words.proofs.read_words.Given as goal
 
 abbrev pub invariant-loop-i : goal.invariant-loop-i

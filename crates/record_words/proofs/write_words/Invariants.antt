@@ -1,14 +1,9 @@
 -- `record_words::write_words` meets its contract. The invariant: the words passed are the numbers that now stand in the bytes. So at the end the words are
 -- those of the bytes, and the bytes are those of the words. The measure is the words left. Assumes nothing.
 use Prim.Native.Nat.{ℕ, ◌-◌, ◌≤◌, ◌<◌}
-use mathlib.Core.Path.{◌≡◌, sym, ap, ◌∙◌}
-use native.Mathlib.Omega.{arith}
+use mathlib.Core.Path.{◌≡◌}
 use lib.ListN.{length, get_or}
-use Rattle.le.specs.Number.{bytes}
-use Rattle.le.specs.WordsLaws.{words-ext, bytes-words}
-use Rattle.record_words.proofs.Passed.{Passed, passed-put}
-use borrow.Author.Count.{below_none}
-use borrow.Author.Rules.{rules}
+use Rattle.record_words.proofs.Passed.{Passed}
 use Rattle.record_words.proofs.write_words.Given as goal
 
 abbrev pub invariant-loop-i : goal.invariant-loop-i

@@ -1,6 +1,5 @@
 -- `need` meets its contract: the test decides the definition's. Assumes nothing.
 use borrow.Author.Tests.{lt-ltb, le-ltb}
-use borrow.Author.Rules.{rules}
 use Rattle.sizes.specs.Needed.{needed_of}
 use Rattle.sizes.proofs.need.Goals as goal
 

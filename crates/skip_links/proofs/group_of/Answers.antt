@@ -1,6 +1,5 @@
 -- `skip_links::group_of` meets its contract: by whether the sizes are equal. Assumes nothing.
 use mathlib.Core.Path.{sym, ◌∙◌}
-use borrow.Author.Rules.{rules}
 use Rattle.skip_links.specs.RingTurn.{member-same, member-other}
 use Rattle.skip_links.proofs.group_of.Goals as goal
 

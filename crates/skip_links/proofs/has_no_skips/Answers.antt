@@ -1,5 +1,4 @@
 -- `skip_links::has_no_skips` meets its contract: two words are asked for, the second if the first stands. Assumes nothing.
-use borrow.Author.Rules.{rules}
 use Rattle.le.specs.Arena.{arena_words}
 use Rattle.sizes.specs.Limits.{none64}
 use Rattle.machine.specs.Writes.{skip_fwd, skip_back}

@@ -1,5 +1,4 @@
 -- `skip_links::linked` meets its contract: two words are asked for, the second if the first stands. Assumes nothing.
-use borrow.Author.Rules.{rules}
 use Rattle.le.specs.Arena.{arena_words}
 use Rattle.machine.specs.Writes.{skip_fwd, skip_back}
 use Rattle.skip_links.specs.RingTurn.{two-stand, first-falls}

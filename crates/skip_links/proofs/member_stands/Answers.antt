@@ -1,7 +1,6 @@
 -- `skip_links::member_stands` meets its contract: by whether the sizes are equal. Assumes nothing.
 use mathlib.Core.Path.{sym, ap, ◌∙◌}
 use mathlib.Core.List.{List}
-use borrow.Author.Rules.{rules}
 use Rattle.le.specs.Arena.{arena_words}
 use Rattle.machine.specs.Writes.{Write, stand?}
 use Rattle.skip_links.specs.RingTurn.{member-same, member-other}

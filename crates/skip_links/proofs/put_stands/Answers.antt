@@ -3,7 +3,6 @@ use mathlib.Core.Path.{sym, ap, ◌∙◌}
 use mathlib.Core.List.{List}
 use Prim.Native.Nat.{ℕ}
 use native.Mathlib.Omega.{arith}
-use borrow.Author.Rules.{rules}
 use Rattle.le.specs.Arena.{arena_words}
 use Rattle.machine.specs.Writes.{Write, stand?}
 use Rattle.machine.specs.View.{size_at}

@@ -1,13 +1,8 @@
 -- `skip_links::puts_stand` meets its contract. The invariant: the list stands if it does from u on. The measure is how many chunks these are. Assumes
 -- nothing.
-use mathlib.Core.List.{List}
-use Prim.Native.Nat.{ℕ}
 use native.Mathlib.Omega.{arith}
-use borrow.Author.Tests.{not-true, not-false}
-use Rattle.le.specs.Arena.{arena_words}
-use Rattle.skip_links.specs.Walk.{Walk}
-use Rattle.skip_links.specs.WalkTurn.{left, rest-fewer, walk-bytes}
-use Rattle.skip_links.specs.RingTurn.{Putting, putting-start, putting-in, putting-next, putting-falls, putting-end}
+use Rattle.skip_links.specs.WalkTurn.{rest-fewer, walk-bytes}
+use Rattle.skip_links.specs.RingTurn.{putting-start, putting-in, putting-next, putting-falls, putting-end}
 use Rattle.skip_links.proofs.puts_stand.Goals as goal
 
 pub loop-u-init : goal.loop-u-init

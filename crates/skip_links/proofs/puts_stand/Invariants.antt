@@ -2,12 +2,10 @@
 -- nothing.
 use mathlib.Core.List.{List}
 use Prim.Native.Nat.{ℕ}
-use native.Mathlib.Omega.{arith}
-use borrow.Author.Tests.{not-true, not-false}
 use Rattle.le.specs.Arena.{arena_words}
 use Rattle.skip_links.specs.Walk.{Walk}
-use Rattle.skip_links.specs.WalkTurn.{left, rest-fewer, walk-bytes}
-use Rattle.skip_links.specs.RingTurn.{Putting, putting-start, putting-in, putting-next, putting-falls, putting-end}
+use Rattle.skip_links.specs.WalkTurn.{left}
+use Rattle.skip_links.specs.RingTurn.{Putting}
 use Rattle.skip_links.proofs.puts_stand.Given as goal
 
 abbrev pub invariant-loop-u : goal.invariant-loop-u

@@ -2,14 +2,11 @@
 -- nothing.
 use mathlib.Core.Path.{sym, ap}
 use mathlib.Core.List.{List}
-use Prim.Native.Nat.{ℕ}
 use native.Mathlib.Omega.{arith}
-use borrow.Author.Tests.{not-true, not-false}
 use Rattle.le.specs.Arena.{arena_words}
 use Rattle.machine.specs.Writes.{Write, stand?}
-use Rattle.skip_links.specs.Walk.{LargeWalk}
-use Rattle.skip_links.specs.WalkTurn.{left, rest-fewer}
-use Rattle.skip_links.specs.RingTurn.{Reading, first-in, ring-none, reading-start, reading-in, reading-next, reading-falls, reading-end, large-bytes}
+use Rattle.skip_links.specs.WalkTurn.{rest-fewer}
+use Rattle.skip_links.specs.RingTurn.{first-in, ring-none, reading-start, reading-in, reading-next, reading-falls, reading-end, large-bytes}
 use Rattle.skip_links.proofs.ring_stands.Goals as goal
 
 pub returns-then-x-eq-NONE64 : goal.returns-then-x-eq-NONE64

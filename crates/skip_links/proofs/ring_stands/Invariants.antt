@@ -1,15 +1,11 @@
 -- `skip_links::ring_stands` meets its contract. The invariant: the ring stands if it does from n on. The measure is how many chunks these are. Assumes
 -- nothing.
-use mathlib.Core.Path.{sym, ap}
 use mathlib.Core.List.{List}
 use Prim.Native.Nat.{ℕ}
-use native.Mathlib.Omega.{arith}
-use borrow.Author.Tests.{not-true, not-false}
 use Rattle.le.specs.Arena.{arena_words}
-use Rattle.machine.specs.Writes.{Write, stand?}
 use Rattle.skip_links.specs.Walk.{LargeWalk}
-use Rattle.skip_links.specs.WalkTurn.{left, rest-fewer}
-use Rattle.skip_links.specs.RingTurn.{Reading, first-in, ring-none, reading-start, reading-in, reading-next, reading-falls, reading-end, large-bytes}
+use Rattle.skip_links.specs.WalkTurn.{left}
+use Rattle.skip_links.specs.RingTurn.{Reading}
 use Rattle.skip_links.proofs.ring_stands.Given as goal
 
 abbrev pub invariant-loop-n : goal.invariant-loop-n

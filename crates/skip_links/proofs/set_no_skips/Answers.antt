@@ -1,6 +1,5 @@
 -- `skip_links::set_no_skips` meets its contract: two writes, one after the other. Assumes nothing.
 use mathlib.Core.Path.{ap, ◌∙◌}
-use borrow.Author.Rules.{rules}
 use Rattle.sizes.specs.Limits.{none64}
 use Rattle.machine.specs.Writes.{skip_back, put}
 use Rattle.skip_links.proofs.set_no_skips.Goals as goal

@@ -1,15 +1,12 @@
 -- `skip_links::write_ring` meets its contract. The invariant: with what is to come for the chunks from n on the words are those at the end. The measure is
 -- how many they are. Assumes nothing.
-use mathlib.Core.Path.{◌≡◌, refl, sym, ap, ◌∙◌}
+use mathlib.Core.Path.{refl, sym, ap, ◌∙◌}
 use mathlib.Core.List.{List}
-use Prim.Native.Nat.{ℕ}
 use native.Mathlib.Omega.{arith}
-use lib.ListN.{length}
 use Rattle.le.specs.Arena.{arena_words}
 use Rattle.machine.specs.Writes.{Write, apply}
-use Rattle.skip_links.specs.Walk.{LargeWalk}
-use Rattle.skip_links.specs.WalkTurn.{left, rest-fewer}
-use Rattle.skip_links.specs.RingTurn.{Writing, first-in, ring-none, writing_start, writing-in, writing-link, writing-next, writing-end, large-bytes}
+use Rattle.skip_links.specs.WalkTurn.{rest-fewer}
+use Rattle.skip_links.specs.RingTurn.{first-in, ring-none, writing_start, writing-in, writing-link, writing-next, writing-end, large-bytes}
 use Rattle.skip_links.proofs.write_ring.Goals as goal
 
 pub returns-then-x-eq-NONE64 : goal.returns-then-x-eq-NONE64

@@ -1,7 +1,6 @@
 -- `text::put_field` meets its contract: a blank, and the digits behind it. Assumes nothing.
 use native.Mathlib.Omega.{arith}
 use lib.ListN.{take}
-use borrow.Author.Rules.{rules}
 use Rattle.text.proofs.Writing.{field-written}
 use Rattle.text.proofs.put_field.Goals as goal
 

@@ -1,7 +1,6 @@
 -- `text::put_question` meets its contract: three texts, one behind the other. Assumes nothing.
 use native.Mathlib.Omega.{arith}
 use lib.ListN.{take}
-use borrow.Author.Rules.{rules}
 use Rattle.text.proofs.Writing.{question-written}
 use Rattle.text.proofs.put_question.Goals as goal
 

@@ -3,7 +3,6 @@ use mathlib.Core.Path.{ap, ◌∙◌}
 use Prim.Native.Nat.{ℕ}
 use Rattle.le.specs.Arena.{arena_words}
 use Rattle.machine.specs.Writes.{link, put}
-use borrow.Author.Rules.{rules}
 use Rattle.chunk_fields.proofs.mixing.set_stack_link.Goals as goal
 
 pub returns : goal.returns

@@ -2,7 +2,6 @@
 use mathlib.Core.Path.{ap, ◌∙◌}
 use Prim.Native.Nat.{ℕ}
 use Rattle.machine.specs.Mixing.{stored}
-use borrow.Author.Rules.{rules}
 use Rattle.chunk_fields.proofs.mixing.stack_link_at.Goals as goal
 
 pub returns : goal.returns

@@ -1,7 +1,6 @@
 -- `chunk_fields::mixing::stored` meets its contract: by the one test (`stored-mixed`, `stored-plain`). Assumes nothing.
 use mathlib.Core.Path.{sym}
 use Rattle.machine.specs.MixingLaws.{stored-mixed, stored-plain}
-use borrow.Author.Rules.{rules}
 use Rattle.chunk_fields.proofs.mixing.stored.Goals as goal
 
 pub returns-then-d-eq-MIXED : goal.returns-then-d-eq-MIXED

@@ -1,6 +1,5 @@
 -- `SizeWord::make` meets its contract, with P and without. Assumes nothing.
 use native.Mathlib.Omega.{arith}
-use borrow.Author.Rules.{rules}
 use Rattle.sizes.proofs.SizeWord.make.Goals as goal
 
 pub returns-then-p : goal.returns-then-p

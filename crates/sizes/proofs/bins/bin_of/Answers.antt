@@ -1,7 +1,6 @@
 -- `sizes::bins::bin_of` meets its contract: the table has the bin of the multiple of 16 below s, which is s's own. Assumes nothing.
 use mathlib.Core.Path.{sym, ◌∙◌}
 use native.Mathlib.Omega.{arith}
-use borrow.Author.Rules.{rules}
 use Rattle.sizes.specs.BinLaws.{bin_of-most, bin_of-large_bin, bin_of-round}
 use Rattle.sizes.proofs.bins.bin_of.Goals as goal
 

@@ -1,6 +1,5 @@
 -- `sizes::bins::bin_on` meets its contract: the test opens the definition. Assumes nothing.
 use borrow.Author.Tests.{le-leb, lt-leb}
-use borrow.Author.Rules.{rules}
 use Rattle.sizes.specs.Rows.{bin_on}
 use Rattle.sizes.proofs.bins.bin_on.Goals as goal
 

@@ -1,11 +1,8 @@
 -- `sizes::bins::large_bin` meets its contract: what is left of the rule is that of the rows not yet read. Assumes nothing.
-use mathlib.Core.Path.{◌≡◌, refl, sym, ◌∙◌, ap}
-use Prim.Native.Nat.{ℕ, ◌-◌, ◌≤◌}
-use native.Mathlib.Omega.{arith}
+use mathlib.Core.Path.{◌≡◌}
+use Prim.Native.Nat.{◌-◌, ◌≤◌}
 use lib.ListN.{drop}
-use borrow.Author.Rules.{rules}
 use Rattle.sizes.specs.Sizes.{rows, first_line, large_bin}
-use Rattle.sizes.specs.Rows.{row-bounds, first_line-at, first_line-after}
 use Rattle.sizes.proofs.bins.large_bin.Given as goal
 
 abbrev pub invariant-loop-i : goal.invariant-loop-i

@@ -1,6 +1,5 @@
 -- `sizes::bins::row_at` meets its contract: the code's rows are the definition's, by computation. Assumes nothing.
 use mathlib.Core.Path.{refl}
-use borrow.Author.Rules.{rules}
 use Rattle.sizes.proofs.bins.row_at.Goals as goal
 
 pub returns : goal.returns
