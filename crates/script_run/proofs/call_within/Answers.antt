@@ -1,7 +1,6 @@
 -- `script_run::call_within` meets its contract: the call is made on the first part, and the rest of the bytes stays. Assumes nothing.
 use native.Mathlib.Omega.{arith}
 use lib.ListN.{length-take}
-use borrow.Author.Rules.{rules}
 use Rattle.script_run.proofs.Steps.{within}
 use Rattle.script_run.proofs.call_within.Goals as goal
 

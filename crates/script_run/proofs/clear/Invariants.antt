@@ -1,11 +1,7 @@
 -- `script_run::clear` meets its contract: the loop's invariant: the first i bytes are zeros. Assumes nothing.
-use mathlib.Core.Path.{◌≡◌, sym, ap, ◌∙◌}
-use Prim.Native.Nat.{ℕ, ◌-◌, ◌≤◌}
-use native.Mathlib.Omega.{arith}
+use mathlib.Core.Path.{◌≡◌}
+use Prim.Native.Nat.{◌-◌, ◌≤◌}
 use lib.ListN.{length, take, replicate}
-use lib.Seq.{take-length}
-use borrow.Author.Rules.{rules}
-use Rattle.script_run.proofs.Steps.{one-cleared}
 use Rattle.script_run.proofs.clear.Given as goal
 
 abbrev pub invariant-loop-i : goal.invariant-loop-i

@@ -1,5 +1,4 @@
 -- `script_run::count` meets its contract: one more, or the largest number. Assumes nothing.
-use borrow.Author.Rules.{rules}
 use Rattle.script_run.proofs.Steps.{count-more, count_most}
 use Rattle.script_run.proofs.count.Goals as goal
 

@@ -1,5 +1,4 @@
 -- `script_run::empty_and_join` meets its contract: a case for each answer of the emptying; only a good one is followed by the joining. Assumes nothing.
-use borrow.Author.Rules.{rules}
 use Rattle.script_run.proofs.Steps.{joined-done, joined-granted, joined-refused}
 use Rattle.script_run.proofs.empty_and_join.Goals as goal
 

@@ -1,12 +1,8 @@
 -- `script_run::feed_piece` meets its contract: the loop's invariant: after i bytes state and printed bytes are those of the first i bytes of the piece. Assumes nothing.
-use mathlib.Core.Path.{◌≡◌, ◌∙◌}
+use mathlib.Core.Path.{◌≡◌}
 use Prim.Native.Nat.{◌+◌, ◌*◌, ◌-◌, ◌≤◌}
-use native.Mathlib.Omega.{arith}
 use lib.ListN.{length, take}
-use lib.Seq.{take-length}
-use borrow.Author.Rules.{rules}
 use Rattle.script_run.specs.Run.{step, behind, piece_step, run_of, Buffers, Within}
-use Rattle.script_run.proofs.Steps.{none-fed, one-fed}
 use Rattle.script_run.proofs.feed_piece.Given as goal
 
 abbrev pub invariant-loop-i : goal.invariant-loop-i

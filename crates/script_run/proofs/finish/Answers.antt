@@ -8,10 +8,10 @@ use Rattle.script_run.proofs.Steps.{end-ended, end_none, end_line}
 use Rattle.script_run.proofs.finish.Goals as goal
 
 pub returns-then-ended : goal.returns-then-ended
-returns-then-ended c = record { out_after = end-ended (take c.args.log.printed c.args.out.now) _ _ _ _ _ _ c.if-ended.true; within = record { opens = c.requires.opened_bound.0; prints = search rules } }
+returns-then-ended c = record { out_after = end-ended (take c.args.log.printed c.args.out.now) _ _ _ _ _ _ c.if-ended.true; within = record { opens = c.requires.opened_bound; prints = search rules } }
 
 pub returns-then-len-eq0 : goal.returns-then-len-eq0
-returns-then-len-eq0 c = record { out_after = end_none (take c.args.log.printed c.args.out.now) _ _ _ _ _ _ c.if-ended.false (rw c.if-len-eq0.true); within = record { opens = c.requires.opened_bound.0; prints = search rules } }
+returns-then-len-eq0 c = record { out_after = end_none (take c.args.log.printed c.args.out.now) _ _ _ _ _ _ c.if-ended.false (rw c.if-len-eq0.true); within = record { opens = c.requires.opened_bound; prints = search rules } }
 
 pub returns : goal.returns
 returns c =
