@@ -1,5 +1,5 @@
 -- A resize of a block to another length than 0: each refusal, and what the steps did, are the machine's. Assumes nothing.
-use Rattle.std.specs.Prelude.{◌≡◌, true, false, List, ℕ, ◌+◌, eqb}
+use Rattle.std.specs.Prelude.{◌≡◌, false, List, ℕ, ◌+◌, eqb}
 use Rattle.std.proofs.Common.{sym, ap, ◌∙◌, subst}
 use Rattle.le.specs.Number.{bytes}
 use Rattle.le.specs.Arena.{arena_words}
@@ -9,7 +9,6 @@ use Rattle.sizes.specs.Offsets.{chunk_of}
 use Rattle.sizes.specs.Needed.{needed_of}
 use Rattle.sizes.specs.declared.Needed.{Needed}
 use Rattle.sizes.specs.declared.Needed.TheVariants as N
-use Rattle.machine.specs.Heap.{size_of}
 use Rattle.machine.specs.Writes.{heap_of}
 use Rattle.machine.specs.Resize.{resize}
 use Rattle.machine.specs.View.{size_at}
@@ -28,7 +27,7 @@ use Rattle.audit.specs.Looks.{look_at, look-is-faulty, look-is-dead}
 use Rattle.audit.specs.declared.Look.{Look}
 use Rattle.audit.specs.declared.Look.TheVariants.{Faulty, NotLive}
 use Rattle.primitives.specs.Follow.{Gave, Does}
-use Rattle.calls.specs.Ways.{Octets, kept, resize-shape, resize-request, resize-unsound, resize-dead, resize-none, resize-at}
+use Rattle.calls.specs.Ways.{Octets, kept, resize-request, resize-unsound, resize-dead, resize-none, resize-at}
 use Rattle.calls.specs.Through.{Came, came-sound, sound-ok, looked, Lives}
 use Rattle.calls.specs.Grants.{needed-large, Sized, Stands, found-size, found-stands}
 

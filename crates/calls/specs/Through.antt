@@ -3,7 +3,7 @@
 use Rattle.std.specs.Prelude.{◌≡◌, refl, Bool, true, false, List, ℕ, ◌*◌, ◌^◌, ◌≤◌, ◌<◌, eqb, leb, length, get_or}
 use Rattle.std.proofs.Common.{sym, ap, ◌∙◌, subst, ⊎_elim, arith, ne_eqb, leb-true}
 use Rattle.std.proofs.Math.ListN.{get_or-eq_default}
-use Rattle.le.specs.Number.{words, bytes}
+use Rattle.le.specs.Number.{bytes}
 use Rattle.le.specs.Arena.{arena_words}
 use Rattle.le.specs.NumberLaws.{number_small}
 use Rattle.le.specs.WordsLaws.{length-words, get_d_words}
@@ -14,7 +14,6 @@ use Rattle.machine.specs.Release.{release}
 use Rattle.machine.specs.Audit.{sound?, audit_of}
 use Rattle.machine.specs.Calls.{after, shape?, words_of, heap_in, release_call, job_call}
 use Rattle.machine.specs.declared.Audited.{Audited}
-use Rattle.machine.specs.declared.Audited.TheVariants as A
 use Rattle.machine.specs.declared.Refusal.TheVariants as R
 use Rattle.machine.specs.declared.Answer.TheVariants.{Done, Refused}
 use Rattle.sound.specs.Relation.{Loose, Good, Sound}

@@ -15,7 +15,7 @@ use Rattle.machine.specs.Count.{eq?}
 use Rattle.machine.specs.Heap.{Heap, stack, size_of, p_of, live?}
 use Rattle.machine.specs.Writes.{Ran, heap_of, writes, apply}
 use Rattle.machine.specs.Resize.{resize}
-use Rattle.machine.specs.Calls.{after, left, shape?, heap_in, grant_call, release_call, resize_call}
+use Rattle.machine.specs.Calls.{after, left, shape?, heap_in, resize_call}
 use Rattle.machine.specs.declared.{Got.Got, Got.TheVariants.At, Got.TheVariants.Nothing}
 use Rattle.machine.specs.declared.Refusal.{Refusal}
 use Rattle.machine.specs.declared.Refusal.TheVariants as R
@@ -27,7 +27,7 @@ use Rattle.sound.specs.Ends.{Ends}
 use Rattle.sound.specs.Below.{OwnP}
 use Rattle.sound.specs.Resize.{standing}
 use Rattle.sound.specs.Live.{But, Resizes, live-loose, resize-resizes, resize-own-p, resize-refused}
-use Rattle.calls.specs.Ways.{grant-shape, grant-request, grant-unsound, release-shape, release-unsound, resize-null, resize-zero, resize-shape}
+use Rattle.calls.specs.Ways.{grant-shape, grant-unsound, release-shape, release-unsound, resize-null, resize-zero, resize-shape}
 use Rattle.calls_consequences.specs.Remainder.{Fine, resize-fine}
 use Rattle.calls_consequences.specs.Results.{Lent, SoundIn, UnsoundIn, answered, heap_left, LiveMem, Exactly, StaysSound, CachesKept, LiveKept, BlockAt, ResizedTo}
 use Rattle.calls_consequences.specs.Left.{lent-shape, lent-sound, lent-fine, left-heap, left-stays, left-keeps, left-moves}

@@ -3,7 +3,7 @@ use Rattle.std.specs.Prelude.{◌≡◌, Bool, true, false, List, ℕ, ◌%◌, 
 use Rattle.std.proofs.Math.Path.{refl}
 use Rattle.std.proofs.Common.{sym, ◌∙◌}
 use Rattle.machine.specs.Heap.{Heap, any_fast?}
-use Rattle.machine.specs.Writes.{does, nothing}
+use Rattle.machine.specs.Writes.{nothing}
 use Rattle.machine.specs.Release.{consolidate}
 use Rattle.machine.specs.Grant.{step1, step2, step3, step4, step5, step6, step7, step9, pass, again, from4, seek, grant}
 use Rattle.machine.specs.declared.{Got.Got, Got.TheVariants.At, Got.TheVariants.Nothing}

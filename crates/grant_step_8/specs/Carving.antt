@@ -11,7 +11,7 @@ use Rattle.sizes.specs.Layout.{remainder_word}
 use Rattle.sizes.specs.Sizes.{bin_of}
 use Rattle.machine.specs.Lists.{cnt}
 use Rattle.machine.specs.Count.{ind-same, ind-other, cnt-le-all}
-use Rattle.machine.specs.Heap.{Tile, tile, Heap, bin, with_tiles, end_from, starts_from, top_of, starts, size_of, next, total}
+use Rattle.machine.specs.Heap.{Tile, tile, Heap, bin, with_tiles, end_from, starts_from, top_of, starts, size_of, total}
 use Rattle.machine.specs.Writes.{Write, size, note, put, apply, heap_of, does, more, ◌>>=◌}
 use Rattle.machine.specs.Primitives.{put_first, unlink, set_p, set_note, set_remainder}
 use Rattle.machine.specs.Grant.{split, carve, step8}

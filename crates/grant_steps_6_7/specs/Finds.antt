@@ -6,7 +6,7 @@ use Rattle.machine.specs.Lists.{lst, cnt}
 use Rattle.machine.specs.Heap.{Heap, bin, size_of}
 use Rattle.machine.specs.Grant.{second, first_bin}
 use Rattle.machine.specs.View.{size_at}
-use Rattle.machine.specs.declared.{Got.Got, Got.TheVariants.At, Got.TheVariants.Nothing}
+use Rattle.machine.specs.declared.{Got.Got, Got.TheVariants.At}
 use Rattle.sound.specs.Relation.{Mem, Shape}
 use Rattle.primitives.specs.Follow.{Ok}
 

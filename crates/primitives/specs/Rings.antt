@@ -1,6 +1,6 @@
 -- The skip links as the code writes them follow the machine: a large bin's list can be walked from the head that the record has, and what stood already may be
 -- written again. Assumes nothing.
-use Rattle.std.specs.Prelude.{◌≡◌, refl, List, [], ◌∷◌, ◌++◌, ◌⊎◌, Bool, true, false, ℕ, ◌+◌, ◌%◌, ◌≤◌, ◌<◌, eqb, ltb, length, get_or}
+use Rattle.std.specs.Prelude.{◌≡◌, refl, List, [], ◌∷◌, ◌++◌, Bool, true, false, ℕ, ◌+◌, ◌%◌, ◌≤◌, ◌<◌, eqb, ltb, length, get_or}
 use Rattle.std.proofs.Common.{sym, ap, ◌∙◌, subst, inl, inr, ⊎_elim, arith, get_or-set_same, le-ltb, lt-ltb, ne_eqb}
 use Rattle.le.specs.Arena.{arena_words}
 use Rattle.le.specs.ArenaLaws.{length-arena_words}

@@ -2,7 +2,6 @@
 -- live block of its size with every usable byte, and a chunk that a list reached is free. Assumes nothing.
 use Rattle.std.specs.Prelude.{◌≡◌, refl, List, Bool, true, false, ℕ, ◌*◌, ◌/◌, ◌%◌, ◌^◌, ◌≤◌, ◌<◌, length, get_or}
 use Rattle.std.proofs.Common.{sym, ap, ◌∙◌, subst, arith}
-use Rattle.le.specs.Number.{bytes}
 use Rattle.le.specs.NumberLaws.{number_small}
 use Rattle.le.specs.WordsLaws.{get_d_words}
 use Rattle.le.specs.Arena.{arena_words}

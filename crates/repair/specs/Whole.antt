@@ -9,7 +9,6 @@ use Rattle.sizes.specs.Layout.{top_word, key_low, key_high}
 use Rattle.machine.specs.Heap.{Heap, end_from, record_of}
 use Rattle.machine.specs.Writes.{Write, size, apply, Ran, ran, heap_of, writes, does, ◌>>=◌}
 use Rattle.machine.specs.View.{key_in, tiles_of, view}
-use Rattle.machine.specs.declared.Audited.TheVariants as A
 use Rattle.sound.specs.Relation.{Mem}
 use Rattle.sound.specs.Tiles.{lt-or-le, tiled-join}
 use Rattle.sound.specs.Frames.{apply-append}

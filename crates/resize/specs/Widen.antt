@@ -1,5 +1,5 @@
 -- A block takes in the chunk behind it, loose or binned, and the code follows the machine. One lemma for each way, and what each call requires. Assumes nothing.
-use Rattle.std.specs.Prelude.{◌≡◌, refl, List, [], ◌∷◌, ◌++◌, ℕ, ◌+◌, ◌-◌, ◌*◌, ◌%◌, ◌≤◌, length, get_or}
+use Rattle.std.specs.Prelude.{◌≡◌, refl, List, [], ◌∷◌, ◌++◌, ℕ, ◌+◌, ◌*◌, ◌%◌, ◌≤◌, length, get_or}
 use Rattle.std.proofs.Common.{sym, ap, ◌∙◌, subst, arith}
 use Rattle.sizes.specs.Layout.{top_word, size_word}
 use Rattle.machine.specs.Lists.{cnt}
@@ -18,7 +18,7 @@ use Rattle.primitives.specs.FollowLaws.{gave-by, gave_then, gave-ok}
 use Rattle.primitives.specs.Places.{Home, Binned}
 use Rattle.primitives.specs.Chunks.{Inside}
 use Rattle.release_join.specs.Reads.{Reads, reads, all-at, reads-inside}
-use Rattle.release_join.specs.Ahead.{Nearby, here, Beyond, beyond, next-size}
+use Rattle.release_join.specs.Ahead.{Nearby, Beyond, beyond, next-size}
 use Rattle.release_join.specs.Parts.{home_of}
 use Rattle.resize.specs.States.{Live, Stands, Widens, Reaches, widen_finish, take_in}
 use Rattle.resize.specs.Finish.{live-stands, ahead, start-not-top, stands-nearby}

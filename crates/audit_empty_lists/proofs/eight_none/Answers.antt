@@ -1,7 +1,6 @@
 -- `audit_empty_lists::eight_none` meets its contract: eight words whose `&` is none are none. Assumes nothing.
 use native.Mathlib.Omega.{arith}
 use borrow.Author.Tests.{eqb-true}
-use borrow.Author.Rules.{rules}
 use Rattle.audit_empty_lists.specs.Runs.{eight-none}
 use Rattle.audit_empty_lists.proofs.eight_none.Goals as goal
 

@@ -1,6 +1,5 @@
 -- `audit_empty_lists::eight_zero` meets its contract: eight words whose `|` is 0 are 0. Assumes nothing.
 use borrow.Author.Tests.{eqb-true}
-use borrow.Author.Rules.{rules}
 use Rattle.audit_empty_lists.specs.Runs.{eight-zero}
 use Rattle.audit_empty_lists.proofs.eight_zero.Goals as goal
 

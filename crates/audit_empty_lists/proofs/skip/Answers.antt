@@ -1,10 +1,5 @@
 -- `audit_empty_lists::skip` meets its contract: from a bin on bins alone, else eight cache lists at a time, and then one by one. Assumes nothing.
-use Prim.Native.Nat.{◌-◌}
-use Rattle.audit_empty_lists.specs.Skips.{Skipped}
-use Rattle.audit_empty_lists.specs.Runs.{skipped-none, skipped-then, skipped-caches}
-use borrow.Author.Tests.{not-false}
-use native.Mathlib.Omega.{arith}
-use borrow.Author.Rules.{rules}
+use Rattle.audit_empty_lists.specs.Runs.{skipped-none, skipped-then}
 use Rattle.audit_empty_lists.proofs.skip.Goals as goal
 
 pub loop-j-init : goal.loop-j-init

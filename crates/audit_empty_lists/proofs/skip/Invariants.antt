@@ -1,10 +1,6 @@
 -- `audit_empty_lists::skip` meets its contract: from a bin on bins alone, else eight cache lists at a time, and then one by one. Assumes nothing.
 use Prim.Native.Nat.{◌-◌}
 use Rattle.audit_empty_lists.specs.Skips.{Skipped}
-use Rattle.audit_empty_lists.specs.Runs.{skipped-none, skipped-then, skipped-caches}
-use borrow.Author.Tests.{not-false}
-use native.Mathlib.Omega.{arith}
-use borrow.Author.Rules.{rules}
 use Rattle.audit_empty_lists.proofs.skip.Given as goal
 
 abbrev pub invariant-loop-j : goal.invariant-loop-j

@@ -1,10 +1,6 @@
 -- `audit_empty_lists::skip_bins` meets its contract: four bins at a time, and then one by one. Assumes nothing.
-use Prim.Native.Nat.{◌+◌, ◌-◌}
 use native.Mathlib.Omega.{arith}
-use Rattle.audit_empty_lists.specs.Skips.{Skipped}
-use Rattle.audit_empty_lists.specs.Runs.{skipped-no-bin, skipped-then, skipped-four}
-use borrow.Author.Tests.{not-false}
-use borrow.Author.Rules.{rules}
+use Rattle.audit_empty_lists.specs.Runs.{skipped-no-bin, skipped-then}
 use Rattle.audit_empty_lists.proofs.skip_bins.Goals as goal
 
 pub loop-b-init : goal.loop-b-init

@@ -1,8 +1,5 @@
 -- `audit_empty_lists::skip_caches` meets its contract: the cache lists passed are empty by their heads and counts. Assumes nothing.
-use Prim.Native.Nat.{◌-◌}
-use Rattle.audit_empty_lists.specs.Skips.{Skipped}
 use Rattle.audit_empty_lists.specs.Runs.{skipped-none, skipped-then, skipped-cache}
-use borrow.Author.Rules.{rules}
 use Rattle.audit_empty_lists.proofs.skip_caches.Goals as goal
 
 pub loop-j-init : goal.loop-j-init

@@ -1,5 +1,4 @@
 -- `audit_empty_lists::skip_eight_fast` meets its contract: the first eight fast lists are empty by their heads. Assumes nothing.
-use borrow.Author.Rules.{rules}
 use Rattle.audit_empty_lists.specs.Runs.{skipped-then, skipped-fasts}
 use Rattle.audit_empty_lists.proofs.skip_eight_fast.Goals as goal
 

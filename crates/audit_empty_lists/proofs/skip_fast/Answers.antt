@@ -1,9 +1,6 @@
 -- `audit_empty_lists::skip_fast` meets its contract: the fast lists passed are empty by their heads. Assumes nothing.
-use Prim.Native.Nat.{◌-◌}
 use native.Mathlib.Omega.{arith}
-use Rattle.audit_empty_lists.specs.Skips.{Skipped}
 use Rattle.audit_empty_lists.specs.Runs.{skipped-none, skipped-then, skipped-fast}
-use borrow.Author.Rules.{rules}
 use Rattle.audit_empty_lists.proofs.skip_fast.Goals as goal
 
 pub loop-j-init : goal.loop-j-init

@@ -1,9 +1,6 @@
 -- `audit_empty_lists::skip_one_by_one` meets its contract: the bins passed are empty by their two words. Assumes nothing.
 use Prim.Native.Nat.{◌+◌, ◌-◌}
-use native.Mathlib.Omega.{arith}
 use Rattle.audit_empty_lists.specs.Skips.{Skipped}
-use Rattle.audit_empty_lists.specs.Runs.{skipped-none, skipped-bin}
-use borrow.Author.Rules.{rules}
 use Rattle.audit_empty_lists.proofs.skip_one_by_one.Given as goal
 
 abbrev pub invariant-loop-b : goal.invariant-loop-b

@@ -3,7 +3,6 @@ use mathlib.Core.Path.{ap, ◌∙◌}
 use Prim.Native.Nat.{ℕ}
 use native.Mathlib.Omega.{arith}
 use lib.ListN.{get_or}
-use borrow.Author.Rules.{rules}
 use Rattle.audit_lists.specs.ByKind.{head-by}
 use Rattle.machine.specs.declared.ListKind.TheVariants.{Cache, Fast, Bin}
 use Rattle.machine.specs.View.{up, head_word}

@@ -1,7 +1,6 @@
 -- `audit_lists::kind_at` meets its contract, test by test. Assumes nothing.
 use mathlib.Core.Path.{ap}
 use borrow.Author.Tests.{lt-ltb, le-ltb}
-use borrow.Author.Rules.{rules}
 use Rattle.machine.specs.View.{kind_at}
 use Rattle.machine.specs.declared.ListKind.TheVariants.{Bin}
 use Rattle.audit_lists.proofs.kind_at.Goals as goal

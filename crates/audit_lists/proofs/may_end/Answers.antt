@@ -4,7 +4,6 @@ use Prim.Native.Nat.{ℕ}
 use native.Mathlib.Omega.{arith}
 use lib.ListN.{get_or}
 use lib.Dec.{eqb}
-use borrow.Author.Rules.{rules}
 use Rattle.audit_lists.specs.ByKind.{may_end-by}
 use Rattle.machine.specs.declared.ListKind.TheVariants.{Cache, Bin}
 use Rattle.machine.specs.View.{up}

@@ -2,7 +2,6 @@
 use Prim.Native.Nat.{ℕ}
 use lib.ListN.{get_or-eq_default}
 use borrow.Author.Tests.{eq-eqb, ne_eqb}
-use borrow.Author.Rules.{rules}
 use Rattle.audit_lists.specs.Listed.{unmet}
 use Rattle.audit_lists.proofs.unmet.Goals as goal
 

@@ -3,7 +3,6 @@ use mathlib.Core.Path.{ap, ◌∙◌}
 use Prim.Native.Nat.{ℕ}
 use lib.Dec.{eqb}
 use lib.ListN.{get_or}
-use borrow.Author.Rules.{rules}
 use Rattle.sizes.specs.Limits.{none64}
 use Rattle.machine.specs.View.{up, head_word}
 use Rattle.machine.specs.declared.ListKind.{ListKind}

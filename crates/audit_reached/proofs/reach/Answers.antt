@@ -1,13 +1,10 @@
 -- `reach` meets its contract: the loop keeps Before, from the marks of the tile walk on; the measure is the lists to come. Assumes nothing.
-use mathlib.Core.Path.{◌≡◌, refl, sym, ◌∙◌}
-use mathlib.Core.Logic.{⊎_elim}
-use Prim.Native.Nat.{◌-◌, ◌≤◌}
+use mathlib.Core.Path.{refl, sym, ◌∙◌}
 use native.Mathlib.Omega.{arith}
-use lib.ListN.{length}
-use borrow.Author.Tests.{eqb-true, not-false}
+use borrow.Author.Tests.{eqb-true}
 use borrow.Author.Rules.{rules}
 use Rattle.le.specs.Arena.{arena_words}
-use Rattle.audit_reached.specs.ReachTurn.{Before, lists-enter, list-empty, lists-done}
+use Rattle.audit_reached.specs.ReachTurn.{lists-enter, list-empty, lists-done}
 use Rattle.audit_reached.proofs.reach.Goals as goal
 use Rattle.audit_reached.proofs.reach.Goals.{then-not-is_empty, else-not-is_empty}
 
@@ -37,6 +34,6 @@ loop-i-preserved c =
     let l = c.loop-i in
     let lt = c.loop-i-test.true in
     elim c.if-not-is_empty.branch [
-      then-not-is_empty w ↦ rw w.m-is (w.reach_list.auto.m ∙ l.invariant.0, search rules, w.reach_list.ensures)
-    | else-not-is_empty w ↦ rw w.m-is (l.invariant.0, search rules, list-empty c.args.v (arena_words c.args.a.now) c.args.r.now l.m l.i (omega (arith, lt)) (eqb-true _ _ (sym c.is_empty.ensures ∙ w.if-not-is_empty.false)) l.invariant.2)
+      | then-not-is_empty w ↦ rw w.m-is (w.reach_list.auto.m ∙ l.invariant.0, search rules, w.reach_list.ensures)
+      | else-not-is_empty w ↦ rw w.m-is (l.invariant.0, search rules, list-empty c.args.v (arena_words c.args.a.now) c.args.r.now l.m l.i (omega (arith, lt)) (eqb-true _ _ (sym c.is_empty.ensures ∙ w.if-not-is_empty.false)) l.invariant.2)
     ]

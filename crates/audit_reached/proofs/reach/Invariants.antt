@@ -1,13 +1,9 @@
 -- `reach` meets its contract: the loop keeps Before, from the marks of the tile walk on; the measure is the lists to come. Assumes nothing.
-use mathlib.Core.Path.{◌≡◌, refl, sym, ◌∙◌}
-use mathlib.Core.Logic.{⊎_elim}
+use mathlib.Core.Path.{◌≡◌}
 use Prim.Native.Nat.{◌-◌, ◌≤◌}
-use native.Mathlib.Omega.{arith}
 use lib.ListN.{length}
-use borrow.Author.Tests.{eqb-true, not-false}
-use borrow.Author.Rules.{rules}
 use Rattle.le.specs.Arena.{arena_words}
-use Rattle.audit_reached.specs.ReachTurn.{Before, lists-enter, list-empty, lists-done}
+use Rattle.audit_reached.specs.ReachTurn.{Before}
 use Rattle.audit_reached.proofs.reach.Given as goal
 
 abbrev pub invariant-loop-i : goal.invariant-loop-i

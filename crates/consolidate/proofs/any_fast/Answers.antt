@@ -1,8 +1,6 @@
 -- `consolidate::any_fast` meets its contract: the lists that were passed are empty. Assumes nothing.
-use Prim.Native.Nat.{◌-◌, ◌≤◌}
 use native.Mathlib.Omega.{arith}
-use Rattle.consolidate.specs.AnyFast.{From, from_start, from_next, from_found, from_end}
-use borrow.Author.Rules.{rules}
+use Rattle.consolidate.specs.AnyFast.{from_start, from_next, from_found, from_end}
 use Rattle.consolidate.proofs.any_fast.Goals as goal
 
 pub loop-k-init : goal.loop-k-init

@@ -1,13 +1,9 @@
 -- `consolidate::consolidate` meets its contract. The invariant: consolidate from the start is what was done so far and then the rest of it, from list k on.
 -- Assumes nothing.
 use native.Mathlib.Omega.{arith}
-use Prim.Native.Nat.{◌-◌, ◌≤◌}
-use mathlib.Core.Path.{◌≡◌, refl, ◌∙◌}
-use lib.ListN.{length}
-use Rattle.le.specs.Arena.{arena_words}
-use Rattle.machine.specs.Release.{consolidate}
-use Rattle.primitives.specs.Reach.{Way, reach-has}
-use Rattle.consolidate.specs.Drain.{from_fast, consolidate-start, fast-list, fast-end}
+use mathlib.Core.Path.{refl, ◌∙◌}
+use Rattle.primitives.specs.Reach.{reach-has}
+use Rattle.consolidate.specs.Drain.{consolidate-start, fast-list, fast-end}
 use Rattle.consolidate.proofs.consolidate.Goals as goal
 
 pub loop-k-init : goal.loop-k-init

@@ -1,13 +1,12 @@
 -- `consolidate::consolidate` meets its contract. The invariant: consolidate from the start is what was done so far and then the rest of it, from list k on.
 -- Assumes nothing.
-use native.Mathlib.Omega.{arith}
 use Prim.Native.Nat.{◌-◌, ◌≤◌}
-use mathlib.Core.Path.{◌≡◌, refl, ◌∙◌}
+use mathlib.Core.Path.{◌≡◌}
 use lib.ListN.{length}
 use Rattle.le.specs.Arena.{arena_words}
 use Rattle.machine.specs.Release.{consolidate}
-use Rattle.primitives.specs.Reach.{Way, reach-has}
-use Rattle.consolidate.specs.Drain.{from_fast, consolidate-start, fast-list, fast-end}
+use Rattle.primitives.specs.Reach.{Way}
+use Rattle.consolidate.specs.Drain.{from_fast}
 use Rattle.consolidate.proofs.consolidate.Given as goal
 
 abbrev pub invariant-loop-k : goal.invariant-loop-k

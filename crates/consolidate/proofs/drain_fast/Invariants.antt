@@ -1,17 +1,13 @@
 -- `consolidate::drain_fast` meets its contract. The invariant: the drain from the start is what was done so far and then the drain from here. The measure is the
 -- list's length by the words. Assumes nothing.
-use native.Mathlib.Omega.{arith}
-use mathlib.Core.Path.{◌≡◌, refl, ◌∙◌}
+use mathlib.Core.Path.{◌≡◌}
 use lib.ListN.{length}
 use Rattle.le.specs.Arena.{arena_words}
 use Rattle.machine.specs.Heap.{fast_at}
 use Rattle.machine.specs.Primitives.{pop}
 use Rattle.machine.specs.Release.{join}
-use Rattle.sound.specs.JoinLeaves.{Every, join-leaves}
-use Rattle.primitives.specs.Stacks.{ok-length}
-use Rattle.primitives.specs.Heads.{fast-some, fast-empty}
-use Rattle.primitives.specs.Reach.{Way, way-here}
-use Rattle.consolidate.specs.Drain.{left, drain_of, taken-has, pop-head, pop-takes, drain-next, drain-done, fast-less}
+use Rattle.primitives.specs.Reach.{Way}
+use Rattle.consolidate.specs.Drain.{left, drain_of}
 use Rattle.consolidate.proofs.drain_fast.Given as goal
 
 abbrev pub invariant-loop-r : goal.invariant-loop-r

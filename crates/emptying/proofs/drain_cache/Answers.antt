@@ -1,17 +1,14 @@
 -- `emptying::drain_cache` meets its contract. The invariant: the drain from the start is what was done so far and then the drain from here. The measure is the
 -- list's count. Assumes nothing.
 use native.Mathlib.Omega.{arith}
-use mathlib.Core.Path.{◌≡◌, refl, ◌∙◌}
-use lib.ListN.{length, get_or}
-use Rattle.le.specs.Arena.{arena_words}
-use Rattle.sizes.specs.Layout.{cache_count}
+use mathlib.Core.Path.{refl, ◌∙◌}
 use Rattle.machine.specs.Primitives.{take_cache}
 use Rattle.machine.specs.Release.{release_past}
 use Rattle.sound.specs.Leaves.{Cached}
 use Rattle.sound.specs.Release.{release_past-leaves}
 use Rattle.primitives.specs.Stacks.{ok-length}
 use Rattle.primitives.specs.Heads.{cache-some, cache-empty}
-use Rattle.primitives.specs.Reach.{Way, way-here}
+use Rattle.primitives.specs.Reach.{way-here}
 use Rattle.consolidate.specs.Drain.{drain_of, taken-has, drain-next, drain-done}
 use Rattle.emptying.specs.Emptying.{take_head, take-takes, cache-less}
 use Rattle.emptying.proofs.drain_cache.Goals as goal

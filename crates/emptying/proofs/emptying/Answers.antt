@@ -1,13 +1,9 @@
 -- `emptying::emptying` meets its contract. The invariant: emptying from the start is what was done so far and then the rest of it, from list k on.
 -- Assumes nothing.
 use native.Mathlib.Omega.{arith}
-use Prim.Native.Nat.{◌-◌, ◌≤◌}
-use mathlib.Core.Path.{◌≡◌, refl, ◌∙◌}
-use lib.ListN.{length}
-use Rattle.le.specs.Arena.{arena_words}
-use Rattle.machine.specs.Release.{emptying}
-use Rattle.primitives.specs.Reach.{Way, reach-has}
-use Rattle.emptying.specs.Emptying.{from_cache, emptying-start, cache-list, cache-end}
+use mathlib.Core.Path.{refl, ◌∙◌}
+use Rattle.primitives.specs.Reach.{reach-has}
+use Rattle.emptying.specs.Emptying.{emptying-start, cache-list, cache-end}
 use Rattle.emptying.proofs.emptying.Goals as goal
 
 pub loop-k-init : goal.loop-k-init

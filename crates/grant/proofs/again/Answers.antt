@@ -2,7 +2,6 @@
 use Rattle.primitives.specs.Stacks.{ok-length}
 use Rattle.grant.specs.Chain.{after}
 use Rattle.grant.specs.Ways.{keeps-all, again-over, again-pass}
-use borrow.Author.Rules.{rules}
 use Rattle.grant.proofs.again.Goals as goal
 
 pub any_fast-requires : goal.any_fast-requires

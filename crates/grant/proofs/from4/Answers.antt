@@ -1,7 +1,6 @@
 -- `grant::from4` meets its contract: each way by the steps that were followed up to it. Assumes nothing.
 use Rattle.grant.specs.Chain.{after}
 use Rattle.grant.specs.Ways.{keeps4, keeps-pass, from4-pass, from4-again}
-use borrow.Author.Rules.{rules}
 use Rattle.grant.proofs.from4.Goals as goal
 
 pub pass-g-requires : goal.pass-g-requires

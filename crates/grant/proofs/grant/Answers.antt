@@ -4,7 +4,6 @@ use Rattle.primitives.specs.Stacks.{ok-length}
 use Rattle.grant.specs.Chain.{after}
 use Rattle.grant.specs.Ways.{keeps1, grant1, grant2}
 use Rattle.grant.specs.FromCache.{found-small, found-only}
-use borrow.Author.Rules.{rules}
 use Rattle.grant.proofs.grant.Goals as goal
 
 pub cache_list-requires : goal.cache_list-requires

@@ -1,7 +1,6 @@
 -- `grant::pass` meets its contract: each way by the steps that were followed up to it. Assumes nothing.
 use Rattle.grant.specs.Chain.{after}
 use Rattle.grant.specs.Ways.{keeps5, keeps6, keeps7, pass5, pass6, pass7, pass9}
-use borrow.Author.Rules.{rules}
 use Rattle.grant.proofs.pass.Goals as goal
 
 pub returns-in-At : goal.returns-in-At

@@ -1,7 +1,6 @@
 -- `grant::seek` meets its contract: each way by the steps that were followed up to it. Assumes nothing.
 use Rattle.grant.specs.Chain.{after}
 use Rattle.grant.specs.Ways.{keeps2, keeps3, seek2, seek3, seek4}
-use borrow.Author.Rules.{rules}
 use Rattle.grant.proofs.seek.Goals as goal
 
 pub returns-in-At : goal.returns-in-At

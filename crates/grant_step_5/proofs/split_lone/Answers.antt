@@ -5,7 +5,6 @@ use native.Mathlib.Omega.{arith}
 use lib.ListN.{length-set}
 use Rattle.primitives.specs.Stacks.{ok-length}
 use Rattle.grant_step_5.specs.Turns.{in-unsorted, next-inside, out-ok, out-taken, split_lone-gave}
-use borrow.Author.Rules.{rules}
 use Rattle.grant_step_5.proofs.split_lone.Goals as goal
 
 pub unlink-requires : goal.unlink-requires

@@ -1,12 +1,8 @@
 -- `grant_step_5::step5` meets its contract: on the way, what is left of the step from here is what was left of it from the start (`Reach`), and each answer of a turn
 -- is one way on or out. The measure is how many turns are left: one for each unsorted chunk, read along the links, and one that finds none. Assumes nothing.
-use mathlib.Core.Path.{◌≡◌, refl, ◌∙◌}
+use mathlib.Core.Path.{refl, ◌∙◌}
 use mathlib.Core.Logic.{inl, inr}
-use native.Mathlib.Omega.{arith}
-use lib.ListN.{length}
-use Rattle.le.specs.Arena.{arena_words}
-use Rattle.grant_step_5.specs.Loop.{Sweeping, turns_left, turn-left, reach-start, reach-does, reach-over, way-fewer, way-granted, way-cached, way-binned, way-empty}
-use borrow.Author.Rules.{rules}
+use Rattle.grant_step_5.specs.Loop.{turn-left, reach-start, reach-does, reach-over, way-fewer, way-granted, way-cached, way-binned, way-empty}
 use Rattle.grant_step_5.proofs.step5.Goals as goal
 
 pub loop-going-init : goal.loop-going-init

@@ -1,7 +1,6 @@
 -- `grant_step_5::swept` meets its contract: where one was cached its list has a head (`swept-some`), and that is granted. Assumes nothing.
 use native.Mathlib.Omega.{arith}
 use Rattle.grant_step_5.specs.Loop.{swept-none-gave, swept-some, swept-small, swept-gave}
-use borrow.Author.Rules.{rules}
 use Rattle.grant_step_5.proofs.swept.Goals as goal
 
 pub cache_list-k-requires : goal.cache_list-k-requires

@@ -2,7 +2,6 @@
 -- Assumes nothing.
 use native.Mathlib.Omega.{arith}
 use Rattle.grant_step_5.specs.Turns.{in-unsorted, next-inside, out-ok, out-taken, marked-ok, marked-loose, equal-gave, binned-gave}
-use borrow.Author.Rules.{rules}
 use Rattle.grant_step_5.proofs.take_out.Goals as goal
 
 pub unlink-requires : goal.unlink-requires

@@ -3,7 +3,6 @@
 use native.Mathlib.Omega.{arith}
 use Rattle.primitives.specs.Stacks.{ok-length}
 use Rattle.grant_step_5.specs.Turns.{lone_room, last_none, last_some, last-inside, last-waits, empty-gave, lone-gave, other-gave}
-use borrow.Author.Rules.{rules}
 use Rattle.grant_step_5.proofs.turn.Goals as goal
 
 pub bounds-r-bin_last : goal.bounds-r-bin_last

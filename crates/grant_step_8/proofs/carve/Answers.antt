@@ -2,7 +2,6 @@
 use mathlib.Core.Path.{refl, ap}
 use native.Mathlib.Omega.{arith}
 use lib.ListN.{length}
-use borrow.Author.Rules.{rules}
 use Rattle.primitives.specs.Stacks.{ok-length}
 use Rattle.grant_step_8.specs.Taken.{remainder?}
 use Rattle.grant_step_8.specs.Carving.{Room, room, whole-gave, plain-gave, new-gave}

@@ -1,7 +1,6 @@
 -- `grant_step_8::split` meets its contract: three writes cut the chunk and note the rest's size (`cut_has`), and the rest goes into unsorted (`split-gave`). Assumes nothing.
 use native.Mathlib.Omega.{arith}
 use lib.ListN.{length}
-use borrow.Author.Rules.{rules}
 use Rattle.grant_step_8.specs.Carving.{Room, room, cut_has, split-gave}
 use Rattle.grant_step_8.proofs.split.Goals as goal
 

@@ -4,7 +4,6 @@ use lib.ListN.{length}
 use Rattle.primitives.specs.Chunks.{Inside}
 use Rattle.primitives.specs.Bins.{home-inside}
 use Rattle.grant_step_8.specs.Carving.{size-fit, fit-in, unlinked-has, step8-gave}
-use borrow.Author.Rules.{rules}
 use Rattle.grant_step_8.proofs.step8.Goals as goal
 
 pub size_at-z-requires : goal.size_at-z-requires

@@ -1,7 +1,6 @@
 -- `fault_numbers` is `fault_numbers`, answer by answer. Assumes nothing.
 use mathlib.Core.Path.{sym, ap, ◌∙◌}
 use Rattle.machine.specs.Calls.{fault_numbers}
-use borrow.Author.Rules.{rules}
 use Rattle.heap.proofs.fault_numbers.Goals as goal
 
 pub returns-in-Sound : goal.returns-in-Sound

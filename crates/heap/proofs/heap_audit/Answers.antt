@@ -1,7 +1,6 @@
 -- `heap_audit`: the audit, its answer as numbers. Assumes nothing.
 use mathlib.Core.Path.{ap, ◌∙◌}
 use Rattle.machine.specs.Calls.{fault_numbers}
-use borrow.Author.Rules.{rules}
 use Rattle.heap.proofs.heap_audit.Goals as goal
 
 pub returns : goal.returns

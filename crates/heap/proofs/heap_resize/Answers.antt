@@ -1,6 +1,5 @@
 -- `heap_resize`: the call, its answer as numbers. Assumes nothing.
 use Rattle.heap.specs.Exported.{back_is}
-use borrow.Author.Rules.{rules}
 use Rattle.heap.proofs.heap_resize.Goals as goal
 
 pub returns : goal.returns

@@ -1,7 +1,6 @@
 -- `list_numbers` is `list_numbers`, kind by kind. Assumes nothing.
 use mathlib.Core.Path.{sym, ap}
 use Rattle.machine.specs.Calls.{list_numbers}
-use borrow.Author.Rules.{rules}
 use Rattle.heap.proofs.list_numbers.Goals as goal
 
 pub returns-in-Cache : goal.returns-in-Cache

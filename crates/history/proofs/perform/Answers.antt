@@ -3,7 +3,6 @@ use mathlib.Core.Path.{sym, ap, ◌∙◌}
 use Rattle.heap.specs.Exported.{numbered}
 use Rattle.history.specs.declared.Call.{Call}
 use Rattle.history.specs.Performed.{call_of}
-use borrow.Author.Rules.{rules}
 use Rattle.history.proofs.perform.Goals as goal
 
 pub returns-in-Grant : goal.returns-in-Grant

@@ -1,15 +1,13 @@
 -- `image_keys::key_list` meets its contract. The invariant: with the keys of the chunks from x on the words are those at the end. The measure is how many they are.
 -- Assumes nothing.
-use native.Mathlib.Omega.{arith}
-use mathlib.Core.Path.{◌≡◌, refl, ◌∙◌}
+use mathlib.Core.Path.{◌≡◌}
 use lib.ListN.{length}
 use Rattle.le.specs.Arena.{arena_words}
 use Rattle.machine.specs.Heap.{Heap, stack}
 use Rattle.machine.specs.Writes.{apply}
 use Rattle.sound.specs.Relation.{SoundBy}
 use Rattle.image_keys.specs.Keys.{keys_for}
-use Rattle.image_keys.specs.KeyTurns.{lacking-length, Unkeyed, unkeyed, unkeyed-start, unkeyed-end, unkeyed-next, unkeyed-inside}
-use borrow.Author.Rules.{rules}
+use Rattle.image_keys.specs.KeyTurns.{Unkeyed, unkeyed}
 use Rattle.image_keys.proofs.key_list.Given as goal
 
 abbrev pub invariant-loop-x : goal.invariant-loop-x

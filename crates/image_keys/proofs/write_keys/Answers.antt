@@ -1,14 +1,7 @@
 -- `image_keys::write_keys` meets its contract. The invariant: with the keys of the cache lists from k on the words are those at the end. Assumes nothing.
 use native.Mathlib.Omega.{arith}
-use Prim.Native.Nat.{◌-◌, ◌≤◌}
-use mathlib.Core.Path.{◌≡◌, refl, ◌∙◌}
-use lib.ListN.{length}
-use Rattle.le.specs.Arena.{arena_words}
-use Rattle.machine.specs.Heap.{Heap}
-use Rattle.machine.specs.Writes.{apply}
-use Rattle.sound.specs.Relation.{SoundBy}
-use Rattle.image_keys.specs.Keys.{keys_of}
-use Rattle.image_keys.specs.KeyTurns.{lacking-length, UnkeyedFrom, from_start, from_next, from_end}
+use mathlib.Core.Path.{refl, ◌∙◌}
+use Rattle.image_keys.specs.KeyTurns.{lacking-length, from_start, from_next, from_end}
 use Rattle.image_keys.proofs.write_keys.Goals as goal
 
 pub key_in-q-requires : goal.key_in-q-requires

@@ -1,18 +1,10 @@
 -- `image_skips::write_puts` meets its contract. The invariant: with all ones for the large chunks from x on the words are those at the end. The measure is how
 -- many chunks these are. Assumes nothing.
-use mathlib.Core.Path.{◌≡◌, refl, sym, ◌∙◌}
+use mathlib.Core.Path.{refl, sym, ◌∙◌}
 use native.Mathlib.Omega.{arith}
-use lib.ListN.{length}
-use Rattle.le.specs.Arena.{arena_words}
-use Rattle.sizes.specs.Limits.{unsorted}
-use Rattle.machine.specs.Heap.{Heap, bin, size_of}
-use Rattle.machine.specs.Writes.{apply}
-use Rattle.machine.specs.Skips.{all_put}
-use Rattle.skip_links.specs.WalkTurn.{left}
-use Rattle.primitives.specs.Linked.{Linked}
+use Rattle.machine.specs.Heap.{size_of}
 use Rattle.primitives.specs.Rings.{linked-length}
-use Rattle.image_skips.specs.SkipTurns.{Putting, putting-start, putting-end, putting-size, putting-next, putting-fewer, putting-bytes}
-use borrow.Author.Rules.{rules}
+use Rattle.image_skips.specs.SkipTurns.{putting-start, putting-end, putting-size, putting-next, putting-fewer, putting-bytes}
 use Rattle.image_skips.proofs.write_puts.Goals as goal
 
 pub bounds-r-at : goal.bounds-r-at

@@ -1,7 +1,6 @@
 -- `image_skips::write_puts` meets its contract. The invariant: with all ones for the large chunks from x on the words are those at the end. The measure is how
 -- many chunks these are. Assumes nothing.
-use mathlib.Core.Path.{◌≡◌, refl, sym, ◌∙◌}
-use native.Mathlib.Omega.{arith}
+use mathlib.Core.Path.{◌≡◌}
 use lib.ListN.{length}
 use Rattle.le.specs.Arena.{arena_words}
 use Rattle.sizes.specs.Limits.{unsorted}
@@ -10,9 +9,7 @@ use Rattle.machine.specs.Writes.{apply}
 use Rattle.machine.specs.Skips.{all_put}
 use Rattle.skip_links.specs.WalkTurn.{left}
 use Rattle.primitives.specs.Linked.{Linked}
-use Rattle.primitives.specs.Rings.{linked-length}
-use Rattle.image_skips.specs.SkipTurns.{Putting, putting-start, putting-end, putting-size, putting-next, putting-fewer, putting-bytes}
-use borrow.Author.Rules.{rules}
+use Rattle.image_skips.specs.SkipTurns.{Putting}
 use Rattle.image_skips.proofs.write_puts.Given as goal
 
 abbrev pub invariant-loop-x : goal.invariant-loop-x

@@ -1,14 +1,7 @@
 -- `image_skips::write_rings` meets its contract. The invariant: with the rings of the bins from j on the words are those at the end. Assumes nothing.
-use mathlib.Core.Path.{◌≡◌, refl, ◌∙◌}
-use Prim.Native.Nat.{◌-◌, ◌≤◌}
+use mathlib.Core.Path.{refl, ◌∙◌}
 use native.Mathlib.Omega.{arith}
-use lib.ListN.{length}
-use Rattle.le.specs.Arena.{arena_words}
-use Rattle.machine.specs.Heap.{Heap}
-use Rattle.machine.specs.Writes.{apply}
-use Rattle.primitives.specs.Linked.{Linked}
-use Rattle.image_skips.specs.Skips.{rings_from}
-use Rattle.image_skips.specs.SkipTurns.{RingsTo, rings-start, rings-next, rings-end}
+use Rattle.image_skips.specs.SkipTurns.{rings-start, rings-next, rings-end}
 use Rattle.image_skips.proofs.write_rings.Goals as goal
 
 pub loop-j-init : goal.loop-j-init

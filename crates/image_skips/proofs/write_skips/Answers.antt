@@ -1,6 +1,5 @@
 -- `image_skips::write_skips` meets its contract: unsorted, then the rings. Assumes nothing.
 use Rattle.image_skips.specs.SkipTurns.{puts-linked, skips-both}
-use borrow.Author.Rules.{rules}
 use Rattle.image_skips.proofs.write_skips.Goals as goal
 
 pub write_rings-requires : goal.write_rings-requires

@@ -1,6 +1,5 @@
 -- `joining::joining` meets its contract: consolidate, and then one word of the record. Assumes nothing.
 use native.Mathlib.Omega.{arith}
-use borrow.Author.Rules.{rules}
 use mathlib.Core.Path.{refl}
 use Rattle.primitives.specs.Stacks.{ok-length}
 use Rattle.joining.specs.Joining.{joining-gave}

@@ -1,7 +1,6 @@
 -- `primitives::bin_of_end` meets its contract: by its one test. Assumes nothing.
 use mathlib.Core.Path.{sym, ◌∙◌}
 use Rattle.primitives.specs.Ends.{bin_by-same, bin_by-other}
-use borrow.Author.Rules.{rules}
 use Rattle.primitives.proofs.bin_of_end.Goals as goal
 
 pub returns-then-v-c : goal.returns-then-v-c

@@ -1,5 +1,5 @@
 -- `primitives::cache_takes` meets its contract: by the size, and by the count of its list. Assumes nothing.
-use mathlib.Core.Path.{◌≡◌, sym, ap, ◌∙◌}
+use mathlib.Core.Path.{ap}
 use Prim.Native.Nat.{ℕ}
 use native.Mathlib.Omega.{arith}
 use lib.Dec.{ltb}
@@ -7,7 +7,6 @@ use lib.ListN.{get_or}
 use borrow.Author.Tests.{lt-leb, le-leb}
 use Rattle.sizes.specs.Limits.{most_cached, cache_room}
 use Rattle.sizes.specs.Layout.{cache_count}
-use borrow.Author.Rules.{rules}
 use Rattle.primitives.proofs.cache_takes.Goals as goal
 
 pub returns-then-z-gt-MOST_CACHED : goal.returns-then-z-gt-MOST_CACHED

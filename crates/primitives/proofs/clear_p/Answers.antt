@@ -4,7 +4,6 @@ use mathlib.Core.List.{List}
 use Prim.Native.Nat.{ℕ}
 use Rattle.le.specs.Arena.{arena_words}
 use Rattle.machine.specs.Writes.{size, note, put}
-use borrow.Author.Rules.{rules}
 use Rattle.primitives.proofs.clear_p.Goals as goal
 
 pub returns : goal.returns

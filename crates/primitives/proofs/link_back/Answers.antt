@@ -5,7 +5,6 @@ use lib.ListN.{set}
 use Rattle.sizes.specs.Layout.{bin_last}
 use native.Mathlib.Omega.{arith}
 use Rattle.primitives.specs.Ends.{link_back-none, link_back-some, link_end-none, link_end-some}
-use borrow.Author.Rules.{rules}
 use Rattle.primitives.proofs.link_back.Goals as goal
 
 pub returns-then-n-eq-NONE64 : goal.returns-then-n-eq-NONE64

@@ -6,7 +6,6 @@ use Rattle.primitives.specs.Chunks.{Inside}
 use Rattle.primitives.specs.Ends.{leads-kept}
 use Rattle.primitives.specs.Stacks.{ok-length, loose-inside}
 use Rattle.primitives.specs.Bins.{Ready, gap-ready, loose-narrow, link-in-gave}
-use borrow.Author.Rules.{rules}
 use Rattle.primitives.proofs.link_between.Goals as goal
 
 pub set_fwd-requires : goal.set_fwd-requires

@@ -5,7 +5,6 @@ use lib.ListN.{set}
 use Rattle.sizes.specs.Layout.{bin_first}
 use native.Mathlib.Omega.{arith}
 use Rattle.primitives.specs.Ends.{link_fwd-none, link_fwd-some, link_end-none, link_end-some}
-use borrow.Author.Rules.{rules}
 use Rattle.primitives.proofs.link_fwd.Goals as goal
 
 pub returns-then-p-eq-NONE64 : goal.returns-then-p-eq-NONE64

@@ -1,6 +1,5 @@
 -- `primitives::link_in` meets its contract: the links, and the skip links that follow them. Assumes nothing.
 use Rattle.primitives.specs.Rings.{came-linked, came-has, link-in-whole}
-use borrow.Author.Rules.{rules}
 use Rattle.primitives.proofs.link_in.Goals as goal
 
 pub link_between-requires : goal.link_between-requires

@@ -6,7 +6,6 @@ use Rattle.primitives.specs.Chunks.{Inside}
 use Rattle.primitives.specs.Ends.{leads-kept}
 use Rattle.primitives.specs.Stacks.{ok-length}
 use Rattle.primitives.specs.Bins.{bin-below, home-ready, home-inside, unlink-gave}
-use borrow.Author.Rules.{rules}
 use Rattle.primitives.proofs.link_past.Goals as goal
 
 pub fwd_at-n-requires : goal.fwd_at-n-requires

@@ -1,17 +1,13 @@
 -- `primitives::link_past_wherever` meets its contract: the first and the last of a bin by the bin that unsorted's ends tell of (`first_home`, `last-home`), the
 -- others by their two links (`unlink-inner-gave`). Assumes nothing.
-use mathlib.Core.Path.{◌≡◌, sym, subst, ◌∙◌}
+use mathlib.Core.Path.{sym, subst, ◌∙◌}
 use Prim.Native.Nat.{ℕ}
 use native.Mathlib.Omega.{arith}
 use lib.ListN.{length}
-use Rattle.le.specs.Arena.{arena_words}
-use Rattle.machine.specs.Heap.{Heap}
-use Rattle.primitives.specs.Follow.{Ok, Gave, Does}
-use Rattle.primitives.specs.Places.{InBin, Home, home-in}
+use Rattle.primitives.specs.Places.{InBin, home-in}
 use Rattle.primitives.specs.Chunks.{Inside}
 use Rattle.primitives.specs.Stacks.{ok-length}
-use Rattle.primitives.specs.Bins.{Ready, home-ready, home-inside, first_home, last-home, unlink-known-gave, unlink-inner-gave}
-use borrow.Author.Rules.{rules}
+use Rattle.primitives.specs.Bins.{home-ready, home-inside, first_home, last-home, unlink-known-gave, unlink-inner-gave}
 use Rattle.primitives.proofs.link_past_wherever.Goals as goal
 
 pub back_at-p-requires : goal.back_at-p-requires

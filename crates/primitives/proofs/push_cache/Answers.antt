@@ -4,7 +4,6 @@ use native.Mathlib.Omega.{arith}
 use lib.ListN.{length, length-set}
 use Rattle.primitives.specs.Chunks.{Inside}
 use Rattle.primitives.specs.Stacks.{ok-length, ok-cache_count, loose-inside, push-cache-gave}
-use borrow.Author.Rules.{rules}
 use Rattle.primitives.proofs.push_cache.Goals as goal
 
 pub bounds-r-k : goal.bounds-r-k

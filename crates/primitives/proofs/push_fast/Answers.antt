@@ -4,7 +4,6 @@ use native.Mathlib.Omega.{arith}
 use lib.ListN.{length}
 use Rattle.primitives.specs.Chunks.{Inside}
 use Rattle.primitives.specs.Stacks.{ok-length, loose-inside, push-fast-gave}
-use borrow.Author.Rules.{rules}
 use Rattle.primitives.proofs.push_fast.Goals as goal
 
 pub bounds-r-k : goal.bounds-r-k

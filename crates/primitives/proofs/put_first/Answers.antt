@@ -3,7 +3,6 @@ use mathlib.Core.List.{[]}
 use native.Mathlib.Omega.{arith}
 use Rattle.primitives.specs.Stacks.{ok-length}
 use Rattle.primitives.specs.Bins.{first-gap}
-use borrow.Author.Rules.{rules}
 use Rattle.primitives.proofs.put_first.Goals as goal
 
 pub bounds-r-at : goal.bounds-r-at

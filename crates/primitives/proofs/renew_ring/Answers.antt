@@ -6,7 +6,6 @@ use Rattle.le.specs.Arena.{arena_words}
 use Rattle.machine.specs.Heap.{bin}
 use Rattle.machine.specs.Writes.{Write, apply}
 use Rattle.primitives.specs.Rings.{linked-length, first_walk, ring-sizes}
-use borrow.Author.Rules.{rules}
 use Rattle.primitives.proofs.renew_ring.Goals as goal
 
 pub bounds-r-at : goal.bounds-r-at

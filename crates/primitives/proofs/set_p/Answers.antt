@@ -3,7 +3,6 @@ use mathlib.Core.Path.{ap, ◌∙◌}
 use Prim.Native.Nat.{ℕ}
 use Rattle.le.specs.Arena.{arena_words}
 use Rattle.machine.specs.Writes.{size, put}
-use borrow.Author.Rules.{rules}
 use Rattle.primitives.proofs.set_p.Goals as goal
 
 pub returns : goal.returns

@@ -1,10 +1,8 @@
 -- `primitives::skips_in` meets its contract: what comes into unsorted, and what into another bin. Assumes nothing.
-use mathlib.Core.Path.{◌≡◌, ◌∙◌, sym}
+use mathlib.Core.Path.{◌∙◌, sym}
 use native.Mathlib.Omega.{arith}
-use lib.ListN.{length}
-use Rattle.machine.specs.Heap.{Heap, size_of, bin}
+use Rattle.machine.specs.Heap.{size_of, bin}
 use Rattle.primitives.specs.Rings.{Room, comer-room, comer-size, in-unsorted, in-other}
-use borrow.Author.Rules.{rules}
 use Rattle.primitives.proofs.skips_in.Goals as goal
 
 pub size_at-z-requires : goal.size_at-z-requires

@@ -1,8 +1,6 @@
 -- `primitives::skips_out` meets its contract: bins below 64 have no ring. Assumes nothing.
-use native.Mathlib.Omega.{arith}
 use Rattle.machine.specs.Heap.{size_of, bin}
 use Rattle.primitives.specs.Rings.{out-small, out-ring}
-use borrow.Author.Rules.{rules}
 use Rattle.primitives.proofs.skips_out.Goals as goal
 
 pub returns-then-j-lt-LARGE_BIN : goal.returns-then-j-lt-LARGE_BIN

@@ -1,7 +1,6 @@
 -- `primitives::unlink` meets its contract: the links, and the skip links that follow them. Assumes nothing.
 use Rattle.primitives.specs.Bins.{bin-below}
 use Rattle.primitives.specs.Rings.{left-linked, unlink-follows}
-use borrow.Author.Rules.{rules}
 use Rattle.primitives.proofs.unlink.Goals as goal
 
 pub skips_out-requires : goal.skips_out-requires

@@ -1,9 +1,7 @@
 -- `primitives::unlink_wherever` meets its contract: the links, and the ring of the size's bin where the chunk is large. Assumes nothing.
-use mathlib.Core.Path.{◌∙◌}
 use native.Mathlib.Omega.{arith}
 use Rattle.sizes.specs.BinLaws.{bin_of-large}
 use Rattle.primitives.specs.Rings.{left-linked, wherever-small, wherever-large}
-use borrow.Author.Rules.{rules}
 use Rattle.primitives.proofs.unlink_wherever.Goals as goal
 
 pub returns-then-z-lt-LARGE : goal.returns-then-z-lt-LARGE

@@ -1,6 +1,5 @@
 -- `release::release` meets its contract: on the cache, and then its list's two words alone changed; or past it. Assumes nothing.
 use Rattle.release.specs.Release.{on-gave, past-has, past-does}
-use borrow.Author.Rules.{rules}
 use Rattle.release.proofs.release.Goals as goal
 
 pub to_cache-offered-requires : goal.to_cache-offered-requires

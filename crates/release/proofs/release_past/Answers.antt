@@ -1,8 +1,6 @@
 -- `release::release_past` meets its contract: on the fast list up to 128, else joined, and the fast chunks too where it yields enough. Assumes nothing.
 use native.Mathlib.Omega.{arith}
-use borrow.Author.Rules.{rules}
 use Prim.Native.Nat.{◌≤◌}
-use mathlib.Core.Logic.{⊎_elim}
 use lib.ListN.{length}
 use Rattle.primitives.specs.Chunks.{Inside}
 use Rattle.primitives.specs.Stacks.{ok-length, loose-inside}
@@ -51,9 +49,9 @@ pub returns-else-s-ge-CONSOLIDATE_FROM : goal.returns-else-s-ge-CONSOLIDATE_FROM
 returns-else-s-ge-CONSOLIDATE_FROM c =
     record {
       does = λ h o g. elim c.else-s-ge-CONSOLIDATE_FROM.branch [
-        else-s-ge-CONSOLIDATE_FROM-via-then-s-ge-CONSOLIDATE_FROM+else-any_fast w ↦
+        | else-s-ge-CONSOLIDATE_FROM-via-then-s-ge-CONSOLIDATE_FROM+else-any_fast w ↦
             past-none-gave h _ _ _ _ o g.1 c.size_at-z.ensures c.if-z-le-MOST_FAST.false g.0 c.join-s.ensures _ w.any_fast.ensures w.if-any_fast.false
-      | else-s-ge-CONSOLIDATE_FROM-via-else-s-ge-CONSOLIDATE_FROM w ↦
+        | else-s-ge-CONSOLIDATE_FROM-via-else-s-ge-CONSOLIDATE_FROM w ↦
             past-few-gave h _ _ _ _ o g.1 c.size_at-z.ensures c.if-z-le-MOST_FAST.false g.0 c.join-s.ensures w.if-s-ge-CONSOLIDATE_FROM.false
       ];
     }

@@ -5,7 +5,6 @@ use Rattle.primitives.specs.CacheList.{takes-small}
 use Rattle.primitives.specs.Stacks.{ok-length, loose-inside}
 use Rattle.release_join.specs.Reads.{size-inside}
 use Rattle.release.specs.Release.{loose-least, takes-loose, cached-gave, cached-only, passed_is}
-use borrow.Author.Rules.{rules}
 use Rattle.release.proofs.to_cache.Goals as goal
 
 -- c's size as it was read

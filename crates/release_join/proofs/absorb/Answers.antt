@@ -1,7 +1,6 @@
 -- `release_join::absorb` meets its contract: c lies in the arena, and the two writes follow the machine's unlink and swallow. The second leaves s
 -- as c's size. Assumes nothing.
 use native.Mathlib.Omega.{arith}
-use borrow.Author.Rules.{rules}
 use Rattle.release_join.specs.Reads.{arena-words-within}
 use Rattle.release_join.specs.Parts.{taking-binned, taking-inside, taking-small, absorb-gave, absorb-size}
 use Rattle.release_join.proofs.absorb.Goals as goal

@@ -1,6 +1,5 @@
 -- `release_join::join` meets its contract: by the two ways, with the chunk before taken in or not. Either leaves the heap open. Assumes nothing.
 use native.Mathlib.Omega.{arith}
-use borrow.Author.Rules.{rules}
 use mathlib.Core.Path.{◌≡◌, sym, ap, ◌∙◌}
 use Rattle.le.specs.Arena.{arena_words}
 use lib.ListN.{length}

@@ -1,8 +1,6 @@
 -- `release_join::join_next` meets its contract: what stands around an open chunk lies in the arena, and the P behind the next one tells whether that is binned.
 -- Assumes nothing.
 use native.Mathlib.Omega.{arith}
-use borrow.Author.Tests.{not-true, not-false}
-use borrow.Author.Rules.{rules}
 use Prim.Native.Nat.{◌+◌}
 use mathlib.Core.Path.{sym}
 use lib.ListN.{length}

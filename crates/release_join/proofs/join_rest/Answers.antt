@@ -1,5 +1,4 @@
 -- `release_join::join_rest` meets its contract: its two parts, with an open heap between them. Assumes nothing.
-use borrow.Author.Rules.{rules}
 use Rattle.release_join.specs.Join.{next-has, rest-gave}
 use Rattle.release_join.proofs.join_rest.Goals as goal
 

@@ -1,6 +1,5 @@
 -- `release_join::put_down` meets its contract: at the top by the heap with the top from c on, else by the heap with the next P cleared. Assumes nothing.
 use native.Mathlib.Omega.{arith}
-use borrow.Author.Rules.{rules}
 use mathlib.Core.Path.{refl}
 use lib.ListN.{length}
 use Rattle.le.specs.Arena.{arena_words}

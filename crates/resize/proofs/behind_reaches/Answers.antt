@@ -8,7 +8,6 @@ use Rattle.release_join.specs.Reads.{arena-words-within, size-inside}
 use Rattle.release_join.specs.Ahead.{Nearby}
 use Rattle.resize.specs.Finish.{live-stands, stands-nearby}
 use Rattle.resize.specs.Ways.{top-behind, held-behind, binned-behind}
-use borrow.Author.Rules.{rules}
 use Rattle.resize.proofs.behind_reaches.Goals as goal
 
 pub overflow_add-n : goal.overflow_add-n

@@ -13,7 +13,6 @@ use Rattle.grant.specs.Top.{TopAt, top-at}
 use Rattle.resize.specs.States.{Live}
 use Rattle.resize.specs.Finish.{live-stands, stands-small}
 use Rattle.resize.specs.Ways.{live-read, stays-gave, top-grows, top-gave, behind-reaches, behind-gave, sought-gave}
-use borrow.Author.Rules.{rules}
 use Rattle.resize.proofs.resize.Goals as goal
 
 -- c with its size as it was read

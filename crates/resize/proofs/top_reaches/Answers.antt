@@ -4,7 +4,6 @@ use Prim.Native.Nat.{◌+◌}
 use lib.ListN.{get_or}
 use borrow.Author.Tests.{eq-eqb, ne_eqb}
 use Rattle.sizes.specs.Layout.{top_word}
-use borrow.Author.Rules.{rules}
 use Rattle.resize.proofs.top_reaches.Goals as goal
 
 pub overflow_cast-top : goal.overflow_cast-top

@@ -1,7 +1,6 @@
 -- `script_format::put_answer` meets its contract: six texts, one behind the other; 86 bytes are enough for any numbers. Assumes nothing.
 use native.Mathlib.Omega.{arith}
 use lib.ListN.{take}
-use borrow.Author.Rules.{rules}
 use Rattle.script_format.proofs.Writing.{call-written}
 use Rattle.script_format.proofs.put_answer.Goals as goal
 

@@ -1,11 +1,8 @@
 -- `script_reader::first_blank` meets its contract: the loop's invariant: the first i bytes are no blanks. Assumes nothing.
 use mathlib.Core.Path.{◌≡◌}
 use Prim.Native.Nat.{◌+◌, ◌-◌, ◌≤◌}
-use native.Mathlib.Omega.{arith}
 use lib.ListN.{length, drop}
-use borrow.Author.Rules.{rules}
 use Rattle.script.specs.Grammar.{before_blank}
-use Rattle.script_reader.proofs.Reading.{blank_turn, blank-stop, blank-end}
 use Rattle.script_reader.proofs.first_blank.Given as goal
 
 abbrev pub invariant-loop-i : goal.invariant-loop-i

@@ -1,7 +1,6 @@
 -- `script_reader::line_of` meets its contract: by the number of bytes, and then by the second. Assumes nothing.
 use mathlib.Core.Path.{sym, ◌∙◌}
 use native.Mathlib.Omega.{arith}
-use borrow.Author.Rules.{rules}
 use Rattle.script_reader.proofs.Reading.{line-none, line-one, line_other, line-spaced}
 use Rattle.script_reader.proofs.line_of.Goals as goal
 

@@ -2,8 +2,7 @@
 use mathlib.Core.Path.{◌∙◌}
 use native.Mathlib.Omega.{arith}
 use lib.ListN.{length-take}
-use borrow.Author.Rules.{rules}
-use Rattle.script_reader.proofs.Reading.{spaced-one, spaced-two, spaced-none}
+use Rattle.script_reader.proofs.Reading.{spaced-two, spaced-none}
 use Rattle.script_reader.proofs.line_spaced.Goals as goal
 
 pub returns-then-at-t : goal.returns-then-at-t

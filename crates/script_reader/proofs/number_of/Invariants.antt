@@ -1,14 +1,8 @@
 -- `script_reader::number_of` meets its contract: the loop's invariant: what the digits from i on spell after n is what all of them spell, and n has at most i digits. Assumes nothing.
-use mathlib.Core.Path.{◌≡◌, refl, sym, ◌∙◌}
-use Prim.Native.Nat.{◌+◌, ◌*◌, ◌-◌, ◌≤◌, ◌<◌, ◌^◌}
-use native.Mathlib.Nat.{pow-le-pow_right, pow-succ'}
-use native.Mathlib.Numerals.{add-one}
-use native.Mathlib.Omega.{arith}
-use lib.ListN.{length, drop, get_or}
-use borrow.Author.Rules.{rules}
+use mathlib.Core.Path.{◌≡◌}
+use Prim.Native.Nat.{◌-◌, ◌≤◌, ◌<◌, ◌^◌}
+use lib.ListN.{length, drop}
 use Rattle.script.specs.Grammar.{digits_from}
-use Rattle.script_reader.proofs.Reading.{digit_low, digits-turn, digits-stop, digits-end, number-good, number_short}
-use Rattle.script_reader.specs.GrammarLaws.{number-long}
 use Rattle.script_reader.proofs.number_of.Given as goal
 
 abbrev pub invariant-loop-i : goal.invariant-loop-i

@@ -1,7 +1,6 @@
 -- `audit_by` meets its contract: the audit's answer in what a look finds. Assumes nothing.
 use mathlib.Core.Path.{sym, ◌∙◌}
 use Rattle.audit.specs.Looks.{fault-of-look}
-use borrow.Author.Rules.{rules}
 use Rattle.audit.proofs.call_look.audit_by.Goals as goal
 
 pub returns-in-Faulty : goal.returns-in-Faulty

@@ -3,7 +3,6 @@ use mathlib.Core.Path.{ap, ◌∙◌}
 use borrow.Author.Tests.{le-leb, lt-leb}
 use Rattle.machine.specs.Lists.{both}
 use Rattle.audit_lists.specs.Listed.{unmet}
-use borrow.Author.Rules.{rules}
 use Rattle.audit.proofs.call_look.is_live.Goals as goal
 
 pub returns-then-mem-lt16 : goal.returns-then-mem-lt16

@@ -1,7 +1,6 @@
 -- `look_by`: each class of marks is cleared and long enough. Assumes nothing.
 use native.Mathlib.Omega.{arith}
 use Rattle.audit.specs.Zeros.{zeros-ask}
-use borrow.Author.Rules.{rules}
 use Rattle.audit.proofs.call_look.look_by.Goals as goal
 
 pub look_with-requires : goal.look_with-requires

@@ -1,8 +1,6 @@
 -- `look_with`: the audit, and then what its marks say of the block. Assumes nothing.
 use mathlib.Core.Path.{sym, ◌∙◌}
-use borrow.Author.Tests.{not-true, not-false}
 use Rattle.audit.specs.Looks.{look-faulty, look-live, look-dead}
-use borrow.Author.Rules.{rules}
 use Rattle.audit.proofs.call_look.look_with.Goals as goal
 
 pub returns-then-not-is_sound : goal.returns-then-not-is_sound

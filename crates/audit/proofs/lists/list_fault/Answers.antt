@@ -1,19 +1,14 @@
 -- `lists::list_fault` meets its contract: the outer loop keeps Out, the inner one In, and each way out is a lemma of ListTurn. The measures are the lists
 -- to come, and the chunks that were not met. Assumes nothing.
-use mathlib.Core.Path.{◌≡◌, refl, sym, ◌∙◌}
-use Prim.Native.Nat.{ℕ, ◌-◌, ◌*◌, ◌/◌, ◌≤◌, ◌<◌}
+use mathlib.Core.Path.{refl, sym, ◌∙◌}
+use Prim.Native.Nat.{ℕ, ◌*◌, ◌/◌, ◌≤◌, ◌<◌}
 use native.Mathlib.Omega.{arith}
 use lib.ListN.{length, get_or, length-set}
-use borrow.Author.Tests.{not-true, not-false}
-use borrow.Author.Rules.{rules}
 use Rattle.le.specs.Arena.{arena_words}
 use Rattle.sizes.specs.Layout.{fwd_word}
-use Rattle.machine.specs.Lists.{cnt}
-use Rattle.machine.specs.declared.Audited.TheVariants as A
-use Rattle.audit_walks.specs.Marks.{unmet_mark}
 use Rattle.audit_walks.specs.TileTurn.{arena-length}
 use Rattle.audit.specs.MarkLaws.{unmet-inside, unmet-one, mark-less}
-use Rattle.audit.specs.ListTurn.{Out, In, lists-enter, list-skip, list-begin, list-met, list-misplaced, link-read, list-turn, list-end-bad, list-walked, list-unlinked, list-leave, lists-done, kind-words, kind-numbered}
+use Rattle.audit.specs.ListTurn.{lists-enter, list-skip, list-begin, list-met, list-misplaced, link-read, list-turn, list-end-bad, list-walked, list-unlinked, list-leave, lists-done, kind-words, kind-numbered}
 use Rattle.audit.proofs.lists.list_fault.Goals as goal
 
 pub lists-init : goal.lists-init

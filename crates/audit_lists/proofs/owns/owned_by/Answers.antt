@@ -3,7 +3,6 @@ use mathlib.Core.Path.{subst}
 use Rattle.machine.specs.declared.ListKind.TheVariants.{Cache, Fast, Bin}
 use Rattle.audit_lists.specs.Owns.{Numbered}
 use Rattle.audit_lists.specs.OwnsLaws.{cache-owns, owns-by}
-use borrow.Author.Rules.{rules}
 use Rattle.audit_lists.proofs.owns.owned_by.Goals as goal
 
 pub owned_by_bin-requires : goal.owned_by_bin-requires

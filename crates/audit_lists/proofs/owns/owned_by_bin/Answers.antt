@@ -4,7 +4,6 @@ use Prim.Native.Nat.{ℕ, ◌-◌, ◌+◌}
 use native.Mathlib.Omega.{arith}
 use Rattle.sizes.specs.BinSizes.{least_of-comes}
 use Rattle.audit_lists.specs.OwnsLaws.{unsorted-owns, middle-owns, last-owns}
-use borrow.Author.Rules.{rules}
 use Rattle.audit_lists.proofs.owns.owned_by_bin.Goals as goal
 
 pub returns-then-b-eq-UNSORTED : goal.returns-then-b-eq-UNSORTED

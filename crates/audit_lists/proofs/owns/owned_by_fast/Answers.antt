@@ -1,6 +1,5 @@
 -- `owns::owned_by_fast` meets its contract: one size, or none where that is above 128. Assumes nothing.
 use Rattle.audit_lists.specs.OwnsLaws.{fast-owns, fast-owns-none}
-use borrow.Author.Rules.{rules}
 use Rattle.audit_lists.proofs.owns.owned_by_fast.Goals as goal
 
 pub returns-then-s-gt-MOST_FAST : goal.returns-then-s-gt-MOST_FAST

@@ -1,7 +1,6 @@
 -- `skips::skips_ok` meets its contract: each way is a lemma of SkipWays. Assumes nothing.
 use mathlib.Core.Path.{sym, ap, ◌∙◌, subst}
 use Prim.Native.Nat.{◌<◌}
-use borrow.Author.Rules.{rules}
 use Rattle.le.specs.Arena.{arena_words}
 use Rattle.sizes.specs.Layout.{key_low}
 use Rattle.machine.specs.View.{head_word}

@@ -8,7 +8,6 @@ use Rattle.machine.specs.declared.ListKind.TheVariants.{Cache, Fast, Bin}
 use Rattle.audit_lists.specs.Owns.{own_size}
 use Rattle.audit_lists.specs.OwnsLaws.{own-between, own_below, own-above}
 use Rattle.audit_lists.specs.StandWays.{may_stand-by, own-not, own-cache, own-cache-full, own-fast}
-use borrow.Author.Rules.{rules}
 use Rattle.audit_lists.proofs.stands.may_stand.Goals as goal
 
 pub returns-then-s-o : goal.returns-then-s-o

@@ -2,15 +2,13 @@
 -- Assumes nothing.
 use mathlib.Core.Path.{◌≡◌, ap, ◌∙◌}
 use mathlib.Core.Bool.{true, false}
-use Prim.Native.Nat.{ℕ, ◌-◌, ◌/◌, ◌*◌}
+use Prim.Native.Nat.{ℕ, ◌/◌, ◌*◌}
 use native.Mathlib.Omega.{arith}
-use borrow.Author.Tests.{not-true, not-false}
-use borrow.Author.Rules.{rules}
 use Rattle.le.specs.Arena.{arena_words}
 use Rattle.machine.specs.View.{size_at}
 use Rattle.audit_walks.specs.Marks.{binned_by, bin_at}
 use Rattle.audit_walks.specs.TileTurn.{arena-length}
-use Rattle.audit_walks.specs.FlagTurn.{FlagIn, flags-enter, flags-low, low-here, low-top, flag-seen, flag-bad, flag-turn, flag-size, flag-last}
+use Rattle.audit_walks.specs.FlagTurn.{flags-enter, flags-low, low-here, low-top, flag-seen, flag-bad, flag-turn, flag-size, flag-last}
 use Rattle.audit_walks.proofs.flags.flag_fault.Goals as goal
 
 pub loop-o-init : goal.loop-o-init

@@ -1,16 +1,9 @@
 -- `flags::flag_fault` meets its contract: the loop keeps FlagIn, and each way out is a lemma of FlagTurn. The measure is what is left before the top.
 -- Assumes nothing.
-use mathlib.Core.Path.{◌≡◌, ap, ◌∙◌}
-use mathlib.Core.Bool.{true, false}
-use Prim.Native.Nat.{ℕ, ◌-◌, ◌/◌, ◌*◌}
-use native.Mathlib.Omega.{arith}
-use borrow.Author.Tests.{not-true, not-false}
-use borrow.Author.Rules.{rules}
+use Prim.Native.Nat.{◌-◌}
 use Rattle.le.specs.Arena.{arena_words}
-use Rattle.machine.specs.View.{size_at}
-use Rattle.audit_walks.specs.Marks.{binned_by, bin_at}
-use Rattle.audit_walks.specs.TileTurn.{arena-length}
-use Rattle.audit_walks.specs.FlagTurn.{FlagIn, flags-enter, flags-low, low-here, low-top, flag-seen, flag-bad, flag-turn, flag-size, flag-last}
+use Rattle.audit_walks.specs.Marks.{binned_by}
+use Rattle.audit_walks.specs.FlagTurn.{FlagIn}
 use Rattle.audit_walks.proofs.flags.flag_fault.Given as goal
 
 abbrev pub invariant-loop-o : goal.invariant-loop-o

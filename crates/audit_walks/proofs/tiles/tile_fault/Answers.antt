@@ -1,13 +1,11 @@
 -- `tiles::tile_fault` meets its contract: the loop keeps TileIn, and each way out is a lemma of TileTurn. The measure is what is left of the arena.
 -- Assumes nothing.
-use mathlib.Core.Path.{◌≡◌, refl, ◌∙◌}
-use Prim.Native.Nat.{ℕ, ◌+◌, ◌/◌}
+use mathlib.Core.Path.{refl, ◌∙◌}
+use Prim.Native.Nat.{ℕ, ◌/◌}
 use native.Mathlib.Omega.{arith}
-use lib.ListN.{length, length-set}
-use borrow.Author.Tests.{not-true, not-false}
-use borrow.Author.Rules.{rules}
+use lib.ListN.{length-set}
 use Rattle.le.specs.Arena.{arena_words}
-use Rattle.audit_walks.specs.TileTurn.{arena-length, seen, TileIn, tile-big, tile-enter, tile-turn, tile-bad, tile-large, tile-top, tile-sound}
+use Rattle.audit_walks.specs.TileTurn.{arena-length, seen, tile-big, tile-enter, tile-turn, tile-bad, tile-large, tile-top, tile-sound}
 use Rattle.audit_walks.proofs.tiles.tile_fault.Goals as goal
 
 pub loop-top-init : goal.loop-top-init

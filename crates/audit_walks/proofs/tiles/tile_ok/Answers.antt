@@ -1,7 +1,6 @@
 -- `tiles::tile_ok` meets its contract, test by test. Assumes nothing.
 use native.Mathlib.Omega.{arith}
 use borrow.Author.Tests.{lt-ltb, le-ltb}
-use borrow.Author.Rules.{rules}
 use Rattle.audit_walks.specs.TileWord.{word_ok}
 use Rattle.sizes.specs.SizeWord.{low_of_word}
 use Rattle.audit_walks.proofs.tiles.tile_ok.Goals as goal

@@ -1,8 +1,6 @@
 -- `audit` is the machine's: number 1 for a bad shape, else the audit of its words. Assumes nothing.
 use mathlib.Core.Path.{sym, ◌∙◌}
-use native.Mathlib.Omega.{arith}
 use lib.ListN.{length}
-use borrow.Author.Tests.{not-true, not-false}
 use Rattle.calls.specs.Ways.{allowed-true, shape-long, shape-allowed, audit-shape, audit-good}
 use borrow.Author.Rules.{rules}
 use Rattle.calls.proofs.call_audit.audit.Goals as goal

@@ -3,7 +3,6 @@ use mathlib.Core.Path.{◌≡◌, sym, ◌∙◌}
 use mathlib.Core.List.{List}
 use Prim.Native.Nat.{ℕ}
 use native.Mathlib.Omega.{arith}
-use borrow.Author.Tests.{not-true, not-false}
 use Rattle.machine.specs.Release.{emptying}
 use Rattle.machine.specs.Calls.{words_of}
 use Rattle.calls.specs.Ways.{shape-long, job-shape}

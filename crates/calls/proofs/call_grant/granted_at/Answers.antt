@@ -5,7 +5,6 @@ use native.Mathlib.Omega.{arith}
 use Rattle.sizes.specs.Sizes.{usable}
 use Rattle.sizes.specs.Offsets.{mem_of}
 use Rattle.machine.specs.declared.Answer.TheVariants.{Granted}
-use borrow.Author.Rules.{rules}
 use Rattle.calls.proofs.call_grant.granted_at.Goals as goal
 
 pub overflow_cast-result : goal.overflow_cast-result

@@ -1,13 +1,8 @@
 -- `fill` writes a blank record. The invariant: the counts passed are 0, and nothing else was written; the key and the edition come last. Assumes nothing.
-use Prim.Native.Nat.{◌-◌, ◌/◌, ◌%◌, ◌^◌, ◌≤◌}
-use mathlib.Core.Path.{◌≡◌, refl, ◌∙◌, ap}
-use mathlib.Core.List.{List}
-use Prim.Native.Nat.{ℕ}
-use native.Mathlib.Numerals.{add-one}
-use native.Mathlib.Omega.{arith}
-use lib.ListN.{length, set, length-set}
-use borrow.Author.Rules.{rules}
-use Rattle.calls.specs.Blank.{empty-length, zeroed, zeroed-blank}
+use Prim.Native.Nat.{◌-◌, ◌≤◌}
+use mathlib.Core.Path.{◌≡◌}
+use lib.ListN.{length}
+use Rattle.calls.specs.Blank.{zeroed}
 use Rattle.calls.proofs.call_open.fill.Given as goal
 
 abbrev pub invariant-loop-k : goal.invariant-loop-k

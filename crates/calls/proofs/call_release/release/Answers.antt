@@ -3,7 +3,7 @@ use mathlib.Core.Path.{◌≡◌, sym, ◌∙◌}
 use mathlib.Core.List.{List}
 use Prim.Native.Nat.{ℕ}
 use native.Mathlib.Omega.{arith}
-use borrow.Author.Tests.{eq-eqb, ne_eqb, not-true, not-false}
+use borrow.Author.Tests.{eq-eqb, ne_eqb}
 use Rattle.machine.specs.Calls.{words_of}
 use Rattle.calls.specs.Ways.{shape-long, release-shape}
 use Rattle.calls.specs.Through.{Came, came-arena, came-changes, octets, release-refused, release-of-null, release-of-dead, Lives, lives, lives-has, release-through}

@@ -2,7 +2,6 @@
 use mathlib.Core.Path.{◌∙◌}
 use borrow.Author.Tests.{eq-eqb, ne_eqb}
 use Rattle.calls.specs.Ways.{resize-null, resize-zero}
-use borrow.Author.Rules.{rules}
 use Rattle.calls.proofs.call_resize.resize.Goals as goal
 
 pub returns-then-mem-eq0 : goal.returns-then-mem-eq0

@@ -2,7 +2,6 @@
 use mathlib.Core.Path.{sym, ◌∙◌}
 use borrow.Author.Tests.{eq-eqb, ne_eqb}
 use lib.ListN.{length}
-use borrow.Author.Rules.{rules}
 use Rattle.calls.proofs.shape.shaped.Goals as goal
 
 pub returns-then-control-ne-RECORD_BYTES : goal.returns-then-control-ne-RECORD_BYTES

@@ -1,7 +1,6 @@
 -- `consolidate::step4` meets its contract: by the size and by the fast lists. Assumes nothing.
 use Rattle.primitives.specs.Stacks.{ok-length}
 use Rattle.grant.specs.Step4.{small4, none4, some4}
-use borrow.Author.Rules.{rules}
 use Rattle.grant.proofs.step_4.step4.Goals as goal
 
 pub returns-then-b-lt-LARGE : goal.returns-then-b-lt-LARGE

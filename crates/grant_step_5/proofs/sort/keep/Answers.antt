@@ -3,7 +3,6 @@ use native.Mathlib.Omega.{arith}
 use Rattle.primitives.specs.Stacks.{ok-length, loose-inside}
 use Rattle.primitives.specs.CacheList.{takes-small, takes-room}
 use Rattle.grant_step_5.specs.Keep.{keep-granted-gave, keep-cached-gave}
-use borrow.Author.Rules.{rules}
 use Rattle.grant_step_5.proofs.sort.keep.Goals as goal
 
 pub cache_takes-requires : goal.cache_takes-requires

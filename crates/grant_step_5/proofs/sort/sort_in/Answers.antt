@@ -2,7 +2,6 @@
 use native.Mathlib.Omega.{arith}
 use Rattle.sizes.specs.BinLaws.{bin_of-narrow}
 use Rattle.grant_step_5.specs.Newcomer.{own-low, sort-small-gave, sort-large-gave}
-use borrow.Author.Rules.{rules}
 use Rattle.grant_step_5.proofs.sort.sort_in.Goals as goal
 
 pub put_first-requires : goal.put_first-requires

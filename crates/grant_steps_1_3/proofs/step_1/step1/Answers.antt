@@ -2,7 +2,6 @@
 use native.Mathlib.Omega.{arith}
 use Rattle.primitives.specs.Stacks.{ok-length}
 use Rattle.grant_steps_1_3.specs.Steps.{over1, none1, has1, took1, small1}
-use borrow.Author.Rules.{rules}
 use Rattle.grant_steps_1_3.proofs.step_1.step1.Goals as goal
 
 pub returns-then-b-gt-MOST_CACHED : goal.returns-then-b-gt-MOST_CACHED

@@ -1,16 +1,12 @@
 -- `grant_steps_1_3::move_fast` meets its contract: from every turn on the machine does what is left. A turn fills the cache by one. Assumes nothing.
-use mathlib.Core.Path.{◌≡◌, refl, ◌∙◌}
+use mathlib.Core.Path.{◌≡◌}
 use Prim.Native.Nat.{◌-◌}
-use native.Mathlib.Omega.{arith}
 use lib.ListN.{length, get_or}
 use Rattle.le.specs.Arena.{arena_words}
 use Rattle.sizes.specs.Limits.{cache_room}
 use Rattle.sizes.specs.Layout.{cache_count}
-use Rattle.primitives.specs.Stacks.{ok-length}
-use Rattle.primitives.specs.Reach.{Way, way-here}
+use Rattle.primitives.specs.Reach.{Way}
 use Rattle.grant_steps_1_3.specs.Moves.{move_heads}
-use Rattle.grant_steps_1_3.specs.Heads.{heads-end, heads-stop, heads-has, heads-push, heads-again, heads-less}
-use borrow.Author.Rules.{rules}
 use Rattle.grant_steps_1_3.proofs.step_2.move_fast.Given as goal
 
 abbrev pub invariant-loop-r : goal.invariant-loop-r

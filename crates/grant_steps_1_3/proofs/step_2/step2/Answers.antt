@@ -2,7 +2,6 @@
 use native.Mathlib.Omega.{arith}
 use Rattle.primitives.specs.Stacks.{ok-length}
 use Rattle.grant_steps_1_3.specs.Steps.{over2, none2, has2, left2, small2, took2}
-use borrow.Author.Rules.{rules}
 use Rattle.grant_steps_1_3.proofs.step_2.step2.Goals as goal
 
 pub returns-then-b-gt-MOST_FAST : goal.returns-then-b-gt-MOST_FAST

@@ -1,14 +1,10 @@
 -- `grant_steps_1_3::move_lasts` meets its contract: from every turn on the machine does what is left. A turn fills the cache by one. Assumes nothing.
-use mathlib.Core.Path.{◌≡◌, refl, ap, ◌∙◌}
-use Prim.Native.Nat.{◌-◌}
+use mathlib.Core.Path.{refl, ap, ◌∙◌}
 use native.Mathlib.Omega.{arith}
-use lib.ListN.{length, get_or}
-use Rattle.le.specs.Arena.{arena_words}
-use Rattle.sizes.specs.Limits.{cache_room}
-use Rattle.sizes.specs.Layout.{cache_count, bin_last}
+use Rattle.sizes.specs.Layout.{bin_last}
 use Rattle.sizes.specs.BinLaws.{bin_of-most}
 use Rattle.primitives.specs.Stacks.{ok-length}
-use Rattle.primitives.specs.Reach.{Way, way-here}
+use Rattle.primitives.specs.Reach.{way-here}
 use Rattle.grant_steps_1_3.specs.Moves.{move_rest}
 use Rattle.grant_steps_1_3.specs.Lasts.{rest_end, rest-stop, rest_has, rest-push, rest-again, rest-less}
 use borrow.Author.Rules.{rules}

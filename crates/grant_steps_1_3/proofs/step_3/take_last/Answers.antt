@@ -2,7 +2,6 @@
 use mathlib.Core.Path.{refl}
 use native.Mathlib.Omega.{arith}
 use Rattle.grant_steps_1_3.specs.Lasts.{last-in, last-small, last-inside, last-gave}
-use borrow.Author.Rules.{rules}
 use Rattle.grant_steps_1_3.proofs.step_3.take_last.Goals as goal
 
 pub unlink-requires : goal.unlink-requires

@@ -1,13 +1,8 @@
 -- `grant_steps_6_7::least_fit` meets its contract: the walk is `Back` from the bin's last chunk on. The measure is how many chunks it may still come to. Assumes nothing.
-use native.Mathlib.Omega.{arith}
-use borrow.Author.Rules.{rules}
 use Rattle.le.specs.Arena.{arena_words}
 use Rattle.machine.specs.Heap.{Heap}
 use Rattle.primitives.specs.Follow.{Ok}
-use Rattle.primitives.specs.Chunks.{in_bytes}
-use Rattle.primitives.specs.Stacks.{ok-length}
 use Rattle.grant_steps_6_7.specs.Finds.{Back, left}
-use Rattle.grant_steps_6_7.specs.Following.{back_start, back-chunk, back_found, back-next, back-less, back_end}
 use Rattle.grant_steps_6_7.proofs.step_6.least_fit.Given as goal
 
 abbrev pub invariant-loop-c : goal.invariant-loop-c

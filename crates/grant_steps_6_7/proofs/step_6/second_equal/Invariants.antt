@@ -1,11 +1,6 @@
 -- `grant_steps_6_7::second_equal` meets its contract: the walk has the run of c's equals behind it (`Running`). The measure is how many chunks it may still come to. Assumes nothing.
-use native.Mathlib.Omega.{arith}
-use borrow.Author.Tests.{not-true, not-false}
-use lib.ListN.{length}
 use Rattle.le.specs.Arena.{arena_words}
-use Rattle.primitives.specs.Chunks.{Inside}
 use Rattle.grant_steps_6_7.specs.Finds.{Walking, left}
-use Rattle.grant_steps_6_7.specs.Following.{equal_at-not-none, tested, stand-inside, stand-leads, run-leads, run-one, run-start, run-next, run_end, run-less}
 use Rattle.grant_steps_6_7.proofs.step_6.second_equal.Given as goal
 
 abbrev pub invariant-loop-second : goal.invariant-loop-second

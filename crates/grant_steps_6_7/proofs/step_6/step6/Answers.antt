@@ -1,6 +1,5 @@
 -- `grant_steps_6_7::step6` meets its contract: a way for each end of its search, and what it finds is the machine's best fit (`found-has`, `found-gave`). Assumes nothing.
 use native.Mathlib.Omega.{arith}
-use borrow.Author.Rules.{rules}
 use Rattle.sizes.specs.BinLaws.{bin_of-bounds}
 use Rattle.grant_steps_6_7.specs.Following.{small-gave, own-fit, none-gave, found-standing, found-has, found-gave}
 use Rattle.grant_steps_6_7.proofs.step_6.step6.Goals as goal

@@ -1,9 +1,7 @@
 -- `grant_steps_6_7::first_bin` meets its contract: from bin i on the machine's search goes as from the start. Assumes nothing.
 use mathlib.Core.Path.{refl}
-use Prim.Native.Nat.{◌-◌, ◌≤◌, ◌<◌}
 use native.Mathlib.Omega.{arith}
-use borrow.Author.Rules.{rules}
-use Rattle.grant_steps_6_7.specs.Following.{Seeking, seek-start, seek_found, seek-next, seek-end}
+use Rattle.grant_steps_6_7.specs.Following.{seek-start, seek_found, seek-next, seek-end}
 use Rattle.grant_steps_6_7.proofs.step_7.first_bin.Goals as goal
 
 pub loop-i-init : goal.loop-i-init

@@ -2,7 +2,6 @@
 use mathlib.Core.Path.{sym}
 use borrow.Author.Tests.{lt-ltb, le-ltb}
 use Rattle.sizes.specs.Limits.{large}
-use borrow.Author.Rules.{rules}
 use Rattle.grant_steps_6_7.proofs.step_7.rest_for.Goals as goal
 
 pub returns-then-b-lt-LARGE : goal.returns-then-b-lt-LARGE

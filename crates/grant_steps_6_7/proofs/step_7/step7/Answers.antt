@@ -1,8 +1,5 @@
 -- `grant_steps_6_7::step7` meets its contract: the last chunk of a bin above b's own is large enough (`above_fit`). Assumes nothing.
-use mathlib.Core.Path.{◌≡◌, sym, ap, ◌∙◌}
-use Prim.Native.Nat.{ℕ, ◌≤◌}
 use native.Mathlib.Omega.{arith}
-use Rattle.machine.specs.declared.{Got.TheVariants.At}
 use Rattle.primitives.specs.Stacks.{ok-length}
 use Rattle.grant_steps_6_7.specs.Following.{own_first, above-none, above_fit, above-gave}
 use borrow.Author.Rules.{rules}

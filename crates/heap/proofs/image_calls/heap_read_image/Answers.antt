@@ -1,6 +1,5 @@
 -- `heap_read_image`: the reading, its answer as numbers. Assumes nothing.
 use Rattle.heap.specs.Exported.{read-back-is}
-use borrow.Author.Rules.{rules}
 use Rattle.heap.proofs.image_calls.heap_read_image.Goals as goal
 
 pub returns : goal.returns

@@ -1,6 +1,5 @@
 -- `heap_write_image`: the writing, its answer as numbers. Assumes nothing.
 use Rattle.heap.specs.Exported.{written-back-is}
-use borrow.Author.Rules.{rules}
 use Rattle.heap.proofs.image_calls.heap_write_image.Goals as goal
 
 pub returns : goal.returns

@@ -1,7 +1,6 @@
 -- `reading_numbers` is `reading_numbers`, answer by answer. Assumes nothing.
 use mathlib.Core.Path.{sym, ap, ◌∙◌}
 use Rattle.image.specs.Image.{reading_numbers}
-use borrow.Author.Rules.{rules}
 use Rattle.heap.proofs.image_calls.reading_numbers.Goals as goal
 
 pub returns-in-NoMark : goal.returns-in-NoMark

@@ -1,6 +1,5 @@
 -- `heap_repair`: the repair, its answer as numbers. Assumes nothing.
 use Rattle.heap.specs.Exported.{repair-back-is}
-use borrow.Author.Rules.{rules}
 use Rattle.heap.proofs.repair_call.heap_repair.Goals as goal
 
 pub returns : goal.returns

@@ -1,7 +1,6 @@
 -- `repair_numbers` is `repair_numbers`, answer by answer. Assumes nothing.
 use mathlib.Core.Path.{sym, ap}
 use Rattle.repair.specs.RepairCall.{repair_numbers}
-use borrow.Author.Rules.{rules}
 use Rattle.heap.proofs.repair_call.repair_numbers.Goals as goal
 
 pub returns-in-Done : goal.returns-in-Done

@@ -1,7 +1,6 @@
 -- `complete` meets its contract: the keys that are lacked, then the skip links. Assumes nothing.
 use native.Mathlib.Omega.{arith}
 use Rattle.image.specs.Completed.{old-keyed, both-written}
-use borrow.Author.Rules.{rules}
 use Rattle.image.proofs.read.complete.Goals as goal
 
 pub write_lacked_skips-requires : goal.write_lacked_skips-requires

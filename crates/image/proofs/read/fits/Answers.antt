@@ -1,12 +1,10 @@
 -- `fits` meets its contract: the shape of the lent buffers and the file's length first, then the length in the file. Assumes nothing.
 use mathlib.Core.Path.{◌≡◌, sym, ap, ◌∙◌}
 use mathlib.Core.Bool.{false}
-use Prim.Native.Nat.{ℕ, ◌+◌}
+use Prim.Native.Nat.{ℕ}
 use native.Mathlib.Omega.{arith}
 use lib.Dec.{eqb}
 use lib.ListN.{length}
-use borrow.Author.Rules.{rules}
-use borrow.Author.Tests.{not-true, not-false}
 use Rattle.machine.specs.Calls.{shape?}
 use Rattle.image.specs.Image.{record_bytes_by, version_in}
 use Rattle.image.specs.Ways.{never, by_most, not-fits, fits_last}

@@ -1,11 +1,9 @@
 -- `heap_read` meets its contract: as it is by the newest rules or unsound, else with what it lacks. Assumes nothing.
-use mathlib.Core.Path.{◌≡◌, refl, sym, ◌∙◌}
-use mathlib.Core.Bool.{true}
+use mathlib.Core.Path.{sym, ◌∙◌}
 use mathlib.Core.Logic.{inl, inr}
 use native.Mathlib.Omega.{arith}
 use lib.ListN.{length}
 use borrow.Author.Rules.{rules}
-use borrow.Author.Tests.{not-true, not-false}
 use Rattle.calls.specs.Ways.{allowed-true, shape-long, shape-allowed}
 use Rattle.image.specs.Older.{read-as-it-is, read-old, read-completed}
 use Rattle.image.proofs.read.heap_read.Goals as goal

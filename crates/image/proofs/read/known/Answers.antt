@@ -1,6 +1,5 @@
 -- `known` meets its contract: from 1 to the newest. Assumes nothing.
 use mathlib.Core.Path.{sym}
-use borrow.Author.Rules.{rules}
 use borrow.Author.Tests.{lt-leb, le-leb}
 use Rattle.image.proofs.read.known.Goals as goal
 

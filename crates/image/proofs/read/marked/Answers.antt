@@ -1,7 +1,6 @@
 -- `marked` is `marked?`, test by test. Assumes nothing.
 use mathlib.Core.Path.{sym}
 use lib.ListN.{length, get_or}
-use borrow.Author.Rules.{rules}
 use borrow.Author.Tests.{eq-eqb, ne_eqb, le-leb, lt-leb}
 use Rattle.image.proofs.read.marked.Goals as goal
 

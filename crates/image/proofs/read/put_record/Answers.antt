@@ -3,7 +3,6 @@ use mathlib.Core.Path.{◌∙◌}
 use Prim.Native.Nat.{◌-◌}
 use native.Mathlib.Omega.{arith}
 use lib.ListN.{length, length-take, length-drop}
-use borrow.Author.Rules.{rules}
 use Rattle.le.specs.Number.{digits}
 use Rattle.image.specs.Image.{lacked_record}
 use Rattle.image.specs.Ways.{record-completed, drop-whole}

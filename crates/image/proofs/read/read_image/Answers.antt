@@ -5,8 +5,6 @@ use mathlib.Core.List.{List}
 use Prim.Native.Nat.{ℕ, ◌+◌, ◌-◌, ◌≤◌}
 use native.Mathlib.Omega.{arith}
 use lib.ListN.{length, drop, length-take, length-drop}
-use borrow.Author.Rules.{rules}
-use borrow.Author.Tests.{not-true, not-false}
 use Rattle.calls.specs.Ways.{shape-long}
 use Rattle.image.specs.Image.{marked?, known?, record_bytes_by, version_in}
 use Rattle.image.specs.Ways.{by_most, Fits, fits-true, marked-long, read-no-mark, read-no-version, read-wrong-length, read_done, record-put, same_shape, drop-whole}

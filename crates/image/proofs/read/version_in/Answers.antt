@@ -1,6 +1,5 @@
 -- `version_in` meets its contract: two bytes, low byte first. Assumes nothing.
 use native.Mathlib.Omega.{arith}
-use borrow.Author.Rules.{rules}
 use Rattle.le.specs.Number.{number, number_from}
 use Rattle.image.proofs.read.version_in.Goals as goal
 

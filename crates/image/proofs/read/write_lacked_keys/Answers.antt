@@ -1,6 +1,5 @@
 -- `write_lacked_keys` meets its contract: nothing from version 2 on, else the keys. Assumes nothing.
 use Rattle.image.specs.Completed.{old-lacking, keys-written, no-keys-written}
-use borrow.Author.Rules.{rules}
 use Rattle.image.proofs.read.write_lacked_keys.Goals as goal
 
 pub returns-then-v-ge2 : goal.returns-then-v-ge2

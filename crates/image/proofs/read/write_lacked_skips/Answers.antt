@@ -1,7 +1,6 @@
 -- `write_lacked_skips` meets its contract: nothing from version 3 on, else the skip links. Assumes nothing.
 use Rattle.image_skips.specs.SkipTurns.{sound-links, sound-skips}
 use Rattle.image.specs.Completed.{skips-written, no-skips-written}
-use borrow.Author.Rules.{rules}
 use Rattle.image.proofs.read.write_lacked_skips.Goals as goal
 
 pub returns-then-v-ge3 : goal.returns-then-v-ge3

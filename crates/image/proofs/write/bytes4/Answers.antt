@@ -1,5 +1,4 @@
 -- `bytes4` meets its contract: four bytes with a number put at byte 0 are its digits. Assumes nothing.
-use borrow.Author.Rules.{rules}
 use Rattle.le.specs.Number.{put, put_from, digits}
 use Rattle.image.proofs.write.bytes4.Goals as goal
 

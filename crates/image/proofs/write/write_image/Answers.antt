@@ -4,8 +4,6 @@ use mathlib.Core.Bool.{true}
 use Prim.Native.Nat.{◌≤◌}
 use native.Mathlib.Omega.{arith}
 use lib.ListN.{length}
-use borrow.Author.Rules.{rules}
-use borrow.Author.Tests.{not-true, not-false}
 use Rattle.machine.specs.Calls.{shape?}
 use Rattle.calls.specs.Ways.{allowed-true, shape-long, shape-allowed}
 use Rattle.image.specs.Ways.{write_shape, write-length, write_done, parts-image}

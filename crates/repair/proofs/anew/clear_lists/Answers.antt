@@ -2,7 +2,6 @@
 use mathlib.Core.Path.{◌∙◌}
 use native.Mathlib.Omega.{arith}
 use lib.ListN.{length-set}
-use borrow.Author.Rules.{rules}
 use Rattle.repair.specs.Cleared.{cleared}
 use Rattle.repair.proofs.anew.clear_lists.Goals as goal
 

@@ -2,7 +2,6 @@
 use mathlib.Core.Path.{sym, ap, ◌∙◌}
 use mathlib.Core.List.{List}
 use Prim.Native.Nat.{ℕ}
-use borrow.Author.Rules.{rules}
 use Rattle.machine.specs.Writes.{size, note, put}
 use Rattle.repair.specs.AnewTurn.{stretch-none, stretch-free}
 use Rattle.repair.proofs.anew.end_stretch.Goals as goal

@@ -1,8 +1,7 @@
 -- `anew::fill` meets its contract: the words passed are v. The measure is what is left of them. Assumes nothing.
 use mathlib.Core.Path.{◌≡◌, subst}
-use Prim.Native.Nat.{ℕ, ◌-◌, ◌≤◌}
+use Prim.Native.Nat.{ℕ}
 use native.Mathlib.Omega.{arith}
-use borrow.Author.Rules.{rules}
 use Rattle.repair.specs.Cleared.{Filled, filled_none, filled_more}
 use Rattle.repair.proofs.anew.fill.Goals as goal
 

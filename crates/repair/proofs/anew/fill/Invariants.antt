@@ -1,9 +1,6 @@
 -- `anew::fill` meets its contract: the words passed are v. The measure is what is left of them. Assumes nothing.
-use mathlib.Core.Path.{◌≡◌, subst}
-use Prim.Native.Nat.{ℕ, ◌-◌, ◌≤◌}
-use native.Mathlib.Omega.{arith}
-use borrow.Author.Rules.{rules}
-use Rattle.repair.specs.Cleared.{Filled, filled_none, filled_more}
+use Prim.Native.Nat.{◌-◌, ◌≤◌}
+use Rattle.repair.specs.Cleared.{Filled}
 use Rattle.repair.proofs.anew.fill.Given as goal
 
 abbrev pub invariant-loop-k : goal.invariant-loop-k

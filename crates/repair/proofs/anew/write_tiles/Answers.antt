@@ -1,15 +1,13 @@
 -- `anew::write_tiles` meets its contract: the loop keeps AnewIn, a turn is one of the two of AnewTurn, and the top's size word ends it. The measure is what is left before
 -- the top. Assumes nothing.
 use mathlib.Core.Path.{◌≡◌, ap, ◌∙◌}
-use mathlib.Core.Logic.{⊎_elim}
-use Prim.Native.Nat.{◌-◌}
 use native.Mathlib.Omega.{arith}
 use lib.ListN.{length}
 use borrow.Author.Rules.{rules}
 use Rattle.le.specs.Arena.{arena_words}
 use Rattle.machine.specs.View.{size_at}
 use Rattle.audit_walks.specs.TileTurn.{arena-length}
-use Rattle.repair.specs.AnewTurn.{AnewIn, anew-enter, anew-low, anew-read, anew-size, anew-turn-free, anew-turn-held, anew-last}
+use Rattle.repair.specs.AnewTurn.{anew-enter, anew-low, anew-read, anew-size, anew-turn-free, anew-turn-held, anew-last}
 use Rattle.repair.proofs.anew.write_tiles.Goals as goal
 use Rattle.repair.proofs.anew.write_tiles.Goals.{then-m-o-eq-UNMET, else-m-o-eq-UNMET}
 

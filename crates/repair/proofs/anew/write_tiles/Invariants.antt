@@ -1,15 +1,10 @@
 -- `anew::write_tiles` meets its contract: the loop keeps AnewIn, a turn is one of the two of AnewTurn, and the top's size word ends it. The measure is what is left before
 -- the top. Assumes nothing.
-use mathlib.Core.Path.{◌≡◌, ap, ◌∙◌}
-use mathlib.Core.Logic.{⊎_elim}
+use mathlib.Core.Path.{◌≡◌}
 use Prim.Native.Nat.{◌-◌}
-use native.Mathlib.Omega.{arith}
 use lib.ListN.{length}
-use borrow.Author.Rules.{rules}
 use Rattle.le.specs.Arena.{arena_words}
-use Rattle.machine.specs.View.{size_at}
-use Rattle.audit_walks.specs.TileTurn.{arena-length}
-use Rattle.repair.specs.AnewTurn.{AnewIn, anew-enter, anew-low, anew-read, anew-size, anew-turn-free, anew-turn-held, anew-last}
+use Rattle.repair.specs.AnewTurn.{AnewIn}
 use Rattle.repair.proofs.anew.write_tiles.Given as goal
 
 abbrev pub invariant-loop-o : goal.invariant-loop-o

@@ -3,7 +3,6 @@ use mathlib.Core.Path.{◌∙◌}
 use native.Mathlib.Omega.{arith}
 use Prim.Native.Nat.{ℕ, ◌*◌, ◌^◌, ◌≤◌, ◌<◌}
 use lib.ListN.{length, get_or}
-use borrow.Author.Rules.{rules}
 use Rattle.le.specs.Arena.{arena_words}
 use Rattle.le.specs.ArenaLaws.{length-arena_words}
 use Rattle.audit.specs.Whole.{flagging}

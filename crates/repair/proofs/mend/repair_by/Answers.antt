@@ -4,7 +4,6 @@ use mathlib.Core.Bool.{true}
 use native.Mathlib.Omega.{arith}
 use lib.ListN.{length, replicate}
 use borrow.Author.Rules.{rules}
-use borrow.Author.Tests.{not-true, not-false}
 use Rattle.machine.specs.Calls.{shape?}
 use Rattle.audit_walks.specs.Marks.{ArenaBytes}
 use Rattle.audit.specs.Zeros.{zeros-ask}

@@ -1,17 +1,8 @@
 -- `put::put_all` meets its contract. The invariant: from the start on all is put as what was done so far and then what is free from o on (`Walked`).
 -- The measure is what is left before the top. Assumes nothing.
-use mathlib.Core.Path.{◌≡◌, refl, ◌∙◌}
-use mathlib.Core.Logic.{⊎_elim}
-use Prim.Native.Nat.{◌-◌}
+use mathlib.Core.Path.{refl, ◌∙◌}
 use native.Mathlib.Omega.{arith}
-use lib.ListN.{length}
-use borrow.Author.Tests.{not-true, not-false}
-use borrow.Author.Rules.{rules}
-use Rattle.le.specs.Arena.{arena_words}
-use Rattle.machine.specs.Heap.{Heap}
-use Rattle.primitives.specs.Follow.{Ok}
-use Rattle.repair.specs.Told.{Unlisted}
-use Rattle.repair.specs.PutTurn.{Walked, walk_start, walk_end, walk-loose, walk-gap, walk-fits, turn-held, turn-free, room}
+use Rattle.repair.specs.PutTurn.{walk_start, walk_end, walk-loose, walk-gap, walk-fits, turn-held, turn-free, room}
 use Rattle.repair.proofs.put.put_all.Goals as goal
 use Rattle.repair.proofs.put.put_all.Goals.{then-not-has_p, else-not-has_p}
 

@@ -1,17 +1,13 @@
 -- `put::put_all` meets its contract. The invariant: from the start on all is put as what was done so far and then what is free from o on (`Walked`).
 -- The measure is what is left before the top. Assumes nothing.
-use mathlib.Core.Path.{◌≡◌, refl, ◌∙◌}
-use mathlib.Core.Logic.{⊎_elim}
+use mathlib.Core.Path.{◌≡◌}
 use Prim.Native.Nat.{◌-◌}
-use native.Mathlib.Omega.{arith}
 use lib.ListN.{length}
-use borrow.Author.Tests.{not-true, not-false}
-use borrow.Author.Rules.{rules}
 use Rattle.le.specs.Arena.{arena_words}
 use Rattle.machine.specs.Heap.{Heap}
 use Rattle.primitives.specs.Follow.{Ok}
 use Rattle.repair.specs.Told.{Unlisted}
-use Rattle.repair.specs.PutTurn.{Walked, walk_start, walk_end, walk-loose, walk-gap, walk-fits, turn-held, turn-free, room}
+use Rattle.repair.specs.PutTurn.{Walked}
 use Rattle.repair.proofs.put.put_all.Given as goal
 
 abbrev pub invariant-loop-o : goal.invariant-loop-o

@@ -6,7 +6,6 @@ use Rattle.le.specs.Arena.{arena_words}
 use Rattle.release_join.specs.Reads.{arena-words-within}
 use Rattle.release_join.specs.Ahead.{Nearby}
 use Rattle.resize.specs.Finish.{stands-nearby, finish-whole-gave, trim-has, rest_has, finish-cut-gave}
-use borrow.Author.Rules.{rules}
 use Rattle.resize.proofs.in_place.finish.Goals as goal
 
 pub returns-then-z-b-lt-LEAST_CHUNK : goal.returns-then-z-b-lt-LEAST_CHUNK

@@ -5,7 +5,6 @@ use Rattle.sizes.specs.Layout.{length_word}
 use Rattle.primitives.specs.Stacks.{ok-length}
 use Rattle.release_join.specs.Reads.{arena-words-within}
 use Rattle.resize.specs.Grow.{Growing, growing, grow-gave}
-use borrow.Author.Rules.{rules}
 use Rattle.resize.proofs.in_place.grow_top.Goals as goal
 
 pub overflow_add-top : goal.overflow_add-top

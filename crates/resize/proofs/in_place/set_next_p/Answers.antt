@@ -5,7 +5,6 @@ use Rattle.le.specs.Arena.{arena_words}
 use Rattle.release_join.specs.Reads.{arena-words-within}
 use Rattle.release_join.specs.Ahead.{Nearby}
 use Rattle.resize.specs.Finish.{stands-nearby, next-p-top-gave, next-p-set-gave}
-use borrow.Author.Rules.{rules}
 use Rattle.resize.proofs.in_place.set_next_p.Goals as goal
 
 pub overflow_add-next : goal.overflow_add-next

@@ -5,7 +5,6 @@ use Rattle.le.specs.Arena.{arena_words}
 use Rattle.sizes.specs.SizeWord.{bit, p_of_word}
 use Rattle.machine.specs.Writes.{size, put}
 use Rattle.resize.specs.Finish.{bit_is}
-use borrow.Author.Rules.{rules}
 use Rattle.resize.proofs.in_place.set_own_size.Goals as goal
 
 pub returns : goal.returns

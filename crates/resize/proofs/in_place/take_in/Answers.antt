@@ -5,7 +5,6 @@ use Rattle.le.specs.Arena.{arena_words}
 use Rattle.release_join.specs.Reads.{arena-words-within, size-inside}
 use Rattle.release_join.specs.Ahead.{Nearby}
 use Rattle.resize.specs.Widen.{reaches-nearby, reaches-binned, taken-has, take-in-gave}
-use borrow.Author.Rules.{rules}
 use Rattle.resize.proofs.in_place.take_in.Goals as goal
 
 pub overflow_add-n : goal.overflow_add-n

@@ -2,7 +2,6 @@
 use mathlib.Core.Path.{ap, ◌∙◌}
 use Prim.Native.Nat.{◌+◌, ◌-◌}
 use Rattle.machine.specs.Writes.{size, put}
-use borrow.Author.Rules.{rules}
 use Rattle.resize.proofs.in_place.trim.Goals as goal
 
 pub returns : goal.returns

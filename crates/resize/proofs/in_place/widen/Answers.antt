@@ -6,7 +6,6 @@ use Rattle.le.specs.Arena.{arena_words}
 use Rattle.machine.specs.View.{size_at}
 use Rattle.release_join.specs.Reads.{arena-words-within, size-inside}
 use Rattle.resize.specs.Widen.{own-inside, behind-inside, both_small, both-enough, widen-has, widen-gave}
-use borrow.Author.Rules.{rules}
 use Rattle.resize.proofs.in_place.widen.Goals as goal
 
 pub overflow_add-c : goal.overflow_add-c

@@ -1,13 +1,10 @@
 -- `resize::copy_words` meets its contract: after i turns i words are copied. Assumes nothing.
-use mathlib.Core.Path.{◌≡◌, refl, ap, ◌∙◌}
-use Prim.Native.Nat.{ℕ, ◌-◌, ◌≤◌}
-use native.Mathlib.Omega.{arith}
+use mathlib.Core.Path.{◌≡◌}
+use Prim.Native.Nat.{◌-◌, ◌≤◌}
 use lib.ListN.{length}
-use borrow.Author.Rules.{rules}
 use Rattle.le.specs.Arena.{arena_words}
 use Rattle.machine.specs.Writes.{apply}
 use Rattle.machine.specs.Resize.{copies}
-use Rattle.resize.specs.Moved.{copies-more}
 use Rattle.resize.proofs.moved.copy_words.Given as goal
 
 abbrev pub invariant-loop-i : goal.invariant-loop-i

@@ -3,7 +3,6 @@ use native.Mathlib.Omega.{arith}
 use lib.ListN.{length}
 use Rattle.release_join.specs.Reads.{arena-words-within}
 use Rattle.resize.specs.Moved.{Placed, moves-placed, copied-has, move-gave}
-use borrow.Author.Rules.{rules}
 use Rattle.resize.proofs.moved.move_to.Goals as goal
 
 pub overflow_sub-z : goal.overflow_sub-z

@@ -6,7 +6,6 @@ use Rattle.release_join.specs.Reads.{arena-words-within}
 use Rattle.release_join.specs.Ahead.{Nearby}
 use Rattle.resize.specs.Finish.{live-stands, stands-nearby}
 use Rattle.resize.specs.Moved.{sought-none-gave, sought-near-has, sought-near-gave, sought-far-has, sought-far-gave}
-use borrow.Author.Rules.{rules}
 use Rattle.resize.proofs.moved.seek_block.Goals as goal
 
 pub seek-g-requires : goal.seek-g-requires
