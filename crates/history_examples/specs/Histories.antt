@@ -5,7 +5,7 @@ use Rattle.std.proofs.Common.{sym, ap, subst, inl, inr, ⊎_elim, arith}
 use Rattle.machine.specs.declared.Answer.TheVariants.{Done, Granted, Refused}
 use Rattle.history.specs.Histories.{Grant, Release, Resize, Emptying, Joining, Block, State, state, next, run, answers, Choice, begin}
 use Rattle.calls_consequences.specs.Results.{Lent}
-use Rattle.history.specs.Demand3.{Held, here, Stretch, Mended, MendedAt}
+use Rattle.history.specs.Demand3.{Held, here, there, Stretch, Mended, MendedAt}
 use Rattle.le.specs.Number as L
 use Rattle.le.specs.Arena as B
 use Rattle.sizes.specs.Sizes as S
@@ -76,6 +76,7 @@ gap = record {
   where
     only : (y : ℕ) → Held second y → 32 ≤ y
     only y (here i) = omega (arith, i.0)
+    only y (there i) = elim i [ ]
 
 -- the arena's length, how often the chunk at 0 is binned, the top, the blocks held
 abbrev Seen : Type 0
