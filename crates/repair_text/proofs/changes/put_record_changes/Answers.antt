@@ -51,8 +51,8 @@ loop-o-preserved c =
           (omega (arith, c.loop-o-test.true, length-words 4 record_words c.args.old.now)) (omega (arith, c.loop-o-test.true, length-words 4 record_words c.args.new.now))
           (omega arith)
           (c.put_change-m.ensures.out_after
-          ∙ ap (λ (v : ℕ). t ++ change_text record_letter h.o v c.read4-y.result) (c.read4-x.ensures ∙ word_at c.args.old.now h.o i.0 c.loop-o-test.true)
-          ∙ ap (λ (v : ℕ). t ++ change_text record_letter h.o (get_or os (h.o / 4) 0) v) (c.read4-y.ensures ∙ word_at c.args.new.now h.o i.0 c.loop-o-test.true)),
+          ∙ ap (λ (v : ℕ). t ++ change_text record_letter h.o v c.read4-y.result) (c.read4-x.ensures ∙ word_at c.args.old.now h.o i.0 (omega (arith, c.loop-o-test.true)))
+          ∙ ap (λ (v : ℕ). t ++ change_text record_letter h.o (get_or os (h.o / 4) 0) v) (c.read4-y.ensures ∙ word_at c.args.new.now h.o i.0 (omega (arith, c.loop-o-test.true)))),
     )
 
 pub shape_of-out : goal.shape_of-out
