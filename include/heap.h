@@ -271,13 +271,13 @@
  * some grants and every joining do; so does a resize, or an emptying, with what
  * it releases. Give a call of grant, release, resize, emptying, joining, audit,
  * repair or read_image HEAP_STACK_BYTES of stack. The most that was measured is
- * 23,752, by a resize, and 22,072 by any other, over 600 random heaps, each
+ * 23,704, by a resize, and 21,992 by any other, over 600 random heaps, each
  * also damaged and repaired, and three where a release, a resize and an
  * emptying join the fast lists, of which 20,000 are marks, one for each 16
  * bytes of an arena in four sizes of array, of which a repair has the largest
  * alone, and 1,584 the record's words, which a resize that is a grant or a
  * release has twice. heap_open and heap_write_image need no marks; the most
- * measured is 648. An image is written or read in time in proportion to the
+ * measured is 664. An image is written or read in time in proportion to the
  * arena's length. No call is recursive, none takes memory from elsewhere, and
  * none calls back.
  *
