@@ -1,5 +1,5 @@
 #!/usr/bin/env python3
-"""Brings this repository's definitions and lemmas to today's spelling: words in snake case. Run once, at the top, after /opt/rattle/port/port.py.
+"""Brings this repository's definitions and lemmas to today's spelling: words in snake case. Run once, at the top, after port.py.
 
 A name that specs/ or proofs/ declare and of which a part begins with a small letter and has a capital after a small letter or a digit (arenaWords, arenaWords-set)
 gets its words apart (arena_words, arena_words-set). Types, modules and Rust's own names stay: they have no such part. It is turned wherever it stands: in .antt
