@@ -244,17 +244,3 @@ write-cases P a r f one ok = by (both (shape? a r) (eqb (length f) (image_bytes 
         → P (elim t [ true ↦ written (image a r) Done | false ↦ written f (Refused R.Shape) ])
     by true e = let p = both_yes (shape? a r) (eqb (length f) (image_bytes newest (length a))) e in ok p.0 (eqb-true (length f) (image_bytes newest (length a)) p.1)
     by false e = one (λ p. never (sym e ∙ yes_both (shape? a r) _ p.0 (eq-eqb (length f) (image_bytes newest (length a)) p.1)))
-
-pub read-cases {ℓ} : (P : AfterReading → Type ℓ) (f a r : List ℕ)
-    → (marked? f ≡ false → P (after_reading a r NoMark))
-    → (marked? f ≡ true → known? (version_in f) ≡ false → P (after_reading a r NoVersion))
-    → (marked? f ≡ true → known? (version_in f) ≡ true → fits? f a r ≡ false → P (after_reading a r WrongLength))
-    → (marked? f ≡ true → known? (version_in f) ≡ true → fits? f a r ≡ true → P (heap_read (version_in f) (arena_in f) (record_in f)))
-    → P (read_call f a r)
-read-cases P f a r six seven one ok = by (marked? f) (known? (version_in f)) (fits? f a r) refl refl refl
-  where
-    by : (m v t : Bool) → marked? f ≡ m → known? (version_in f) ≡ v → fits? f a r ≡ t → P (read_call f a r)
-    by false v t e q s = subst P (read-no-mark f a r e) (six e)
-    by true false t e q s = subst P (read-no-version f a r e q) (seven e q)
-    by true true false e q s = subst P (read-wrong-length f a r e q s) (one e q s)
-    by true true true e q s = subst P (read_through f a r e q s) (ok e q s)

@@ -6,7 +6,8 @@ use Rattle.machine.specs.declared.Audited.{Audited}
 use Rattle.image.specs.declared.Reading.{Reading}
 use Rattle.image.specs.declared.Reading.TheVariants.{Read}
 use Rattle.image.specs.Image.{version_in, fits?, after_reading, read_call}
-use Rattle.image.specs.Ways.{read-no-mark, read-no-version, read-wrong-length, read_through, read-cases}
+use Rattle.image.specs.Ways.{read-no-mark, read-no-version, read-wrong-length, read_through}
+use Rattle.image.proofs.Cases.{read-cases}
 use Rattle.image_text.specs.ImageText.{arena_text, tiled?}
 use Rattle.image_text.specs.declared.Form.TheVariants.{Rects}
 use Rattle.image_text.proofs.Lent.{Lent, lent-zeros, fits-same}

@@ -16,9 +16,10 @@ use Rattle.calls.specs.Ways.{allowed-true}
 use Rattle.image.specs.declared.Reading.{Reading}
 use Rattle.image.specs.declared.Reading.TheVariants.{Read}
 use Rattle.image.specs.Image.{version_in, length_in, image_bytes, fits?, after_reading, read_call}
-use Rattle.image.specs.Ways.{marked-long, read-no-mark, read-no-version, read-wrong-length, read_through, read-cases}
-use Rattle.image.specs.Parts.{taken, taken-shape}
-use Rattle.image.specs.Older.{read-audits}
+use Rattle.image.specs.Ways.{marked-long, read-no-mark, read-no-version, read-wrong-length, read_through}
+use Rattle.image.proofs.Cases.{read-cases}
+use Rattle.image.proofs.Parts.{taken, taken-shape}
+use Rattle.image.proofs.Older.{read-audits}
 use Rattle.image_text.specs.ImageText.{AuditedBy, heap_text, read_text, image_text}
 
 pub text_of : (d : Bool) (v : ℕ) (a r : List ℕ) {t : List ℕ} {x y : Reading} → x ≡ y → t ≡ read_text d v (after_reading a r y) → t ≡ read_text d v (after_reading a r x)

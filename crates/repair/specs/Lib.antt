@@ -1,13 +1,4 @@
 pub mod Repair
 pub mod RepairCall
 pub mod Told
-pub mod AnewTiles
-pub mod Mends
-pub mod AnewTurn
 pub mod Cleared
-pub mod PutTurn
-pub mod Whole
-pub mod Ways
-pub mod Held
-pub mod Consequences
-pub mod LosesNone

@@ -14,13 +14,13 @@ use Rattle.calls_consequences.specs.Left.{lent-shape}
 use Rattle.image.specs.declared.Reading.TheVariants.{Read}
 use Rattle.image.specs.Image.{image, version_in, after_reading, read_call}
 use Rattle.image.specs.Ways.{clash, length-image}
-use Rattle.image.specs.Lent.{Lent}
-use Rattle.image.specs.Parts.{image-length}
-use Rattle.image.specs.Inverse.{Exactly, read_answered, read-written}
-use Rattle.image.specs.Older.{Small, read-audits, read-sound, read-lent}
+use Rattle.image.proofs.Lent.{Lent}
+use Rattle.image.proofs.Parts.{image-length}
+use Rattle.image.proofs.Inverse.{Exactly, read_answered, read-written}
+use Rattle.image.proofs.Older.{Small, read-audits, read-sound, read-lent}
 use Rattle.repair.specs.RepairCall.{repair_by}
-use Rattle.repair.specs.Ways.{by-sound}
-use Rattle.repair.specs.Consequences.{mended_by, repair-mends, repair-passes}
+use Rattle.repair.proofs.Ways.{by-sound}
+use Rattle.repair.proofs.Consequences.{mended_by, repair-mends, repair-passes}
 use Rattle.repair_text.specs.Changes.{record_letter, arena_letter, changes_text, all_changes}
 use Rattle.repair_text.specs.ChangesTurn.{change-same}
 use Rattle.repair_text.specs.RepairText.{Mending, refused, mends, mends_to, mending, lines_of, image_of, mend_text, mended_image}

@@ -6,8 +6,8 @@ use Rattle.machine.specs.declared.Audited.{Audited}
 use Rattle.image.specs.declared.Reading.{Reading}
 use Rattle.image.specs.declared.Reading.TheVariants.{Read}
 use Rattle.image.specs.Image.{version_in, after_reading, read_call}
-use Rattle.image.specs.Lent.{Lent, lent-zeros, read_same, read_again}
-use Rattle.image.specs.Inverse.{arena_left, record_left}
+use Rattle.image.proofs.Lent.{Lent, lent-zeros, read_same, read_again}
+use Rattle.image.proofs.Inverse.{arena_left, record_left}
 use Rattle.repair.specs.RepairCall.{AfterRepair, repair_by}
 use Rattle.repair_text.specs.RepairText.{mends_to, mends_read, mending}
 

@@ -5,7 +5,7 @@ use native.Mathlib.Omega.{arith}
 use lib.ListN.{length}
 use borrow.Author.Rules.{rules}
 use Rattle.calls.specs.Ways.{allowed-true, shape-long, shape-allowed}
-use Rattle.image.specs.Older.{read-as-it-is, read-old, read-completed}
+use Rattle.image.proofs.Older.{read-as-it-is, read-old, read-completed}
 use Rattle.image.proofs.read.heap_read.Goals as goal
 
 pub read_words-requires : goal.read_words-requires

@@ -3,7 +3,7 @@ use mathlib.Core.Path.{sym, ap, ◌∙◌}
 use mathlib.Core.List.{List}
 use Prim.Native.Nat.{ℕ}
 use Rattle.machine.specs.Writes.{size, note, put}
-use Rattle.repair.specs.AnewTurn.{stretch-none, stretch-free}
+use Rattle.repair.proofs.AnewTurn.{stretch-none, stretch-free}
 use Rattle.repair.proofs.anew.end_stretch.Goals as goal
 
 pub returns-then-g-eq0 : goal.returns-then-g-eq0

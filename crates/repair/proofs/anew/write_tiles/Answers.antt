@@ -7,7 +7,7 @@ use borrow.Author.Rules.{rules}
 use Rattle.le.specs.Arena.{arena_words}
 use Rattle.machine.specs.View.{size_at}
 use Rattle.audit_walks.specs.TileTurn.{arena-length}
-use Rattle.repair.specs.AnewTurn.{anew-enter, anew-low, anew-read, anew-size, anew-turn-free, anew-turn-held, anew-last}
+use Rattle.repair.proofs.AnewTurn.{anew-enter, anew-low, anew-read, anew-size, anew-turn-free, anew-turn-held, anew-last}
 use Rattle.repair.proofs.anew.write_tiles.Goals as goal
 use Rattle.repair.proofs.anew.write_tiles.Goals.{then-m-o-eq-UNMET, else-m-o-eq-UNMET}
 

@@ -4,7 +4,7 @@ use mathlib.Core.Path.{◌≡◌}
 use Prim.Native.Nat.{◌-◌}
 use lib.ListN.{length}
 use Rattle.le.specs.Arena.{arena_words}
-use Rattle.repair.specs.AnewTurn.{AnewIn}
+use Rattle.repair.proofs.AnewTurn.{AnewIn}
 use Rattle.repair.proofs.anew.write_tiles.Given as goal
 
 abbrev pub invariant-loop-o : goal.invariant-loop-o

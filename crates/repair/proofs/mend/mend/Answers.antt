@@ -8,7 +8,7 @@ use Rattle.le.specs.ArenaLaws.{length-arena_words}
 use Rattle.audit.specs.Whole.{flagging}
 use Rattle.repair.specs.Repair.{free?}
 use Rattle.audit_reached.specs.Tiled.{Tiled, tiled-good}
-use Rattle.repair.specs.Whole.{reached-told, anew-low, anew-has, mended-by}
+use Rattle.repair.proofs.Whole.{reached-told, anew-low, anew-has, mended-by}
 use Rattle.repair.proofs.mend.mend.Goals as goal
 
 pub overflow_cast-top : goal.overflow_cast-top

@@ -9,7 +9,7 @@ use Rattle.audit_walks.specs.Marks.{ArenaBytes}
 use Rattle.audit.specs.Zeros.{zeros-ask}
 use Rattle.calls.specs.Ways.{allowed-true, shape-long, shape-allowed}
 use Rattle.audit_reached.specs.Reached.{tiled?}
-use Rattle.repair.specs.Ways.{by_shape, by-sound, by-faulty, by-mended}
+use Rattle.repair.proofs.Ways.{by_shape, by-sound, by-faulty, by-mended}
 use Rattle.repair.proofs.mend.repair_by.Goals as goal
 
 pub returns-then-not-shaped : goal.returns-then-not-shaped

@@ -2,7 +2,7 @@
 -- The measure is what is left before the top. Assumes nothing.
 use mathlib.Core.Path.{refl, ◌∙◌}
 use native.Mathlib.Omega.{arith}
-use Rattle.repair.specs.PutTurn.{walk_start, walk_end, walk-loose, walk-gap, walk-fits, turn-held, turn-free, room}
+use Rattle.repair.proofs.PutTurn.{walk_start, walk_end, walk-loose, walk-gap, walk-fits, turn-held, turn-free, room}
 use Rattle.repair.proofs.put.put_all.Goals as goal
 use Rattle.repair.proofs.put.put_all.Goals.{then-not-has_p, else-not-has_p}
 

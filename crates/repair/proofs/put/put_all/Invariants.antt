@@ -7,7 +7,7 @@ use Rattle.le.specs.Arena.{arena_words}
 use Rattle.machine.specs.Heap.{Heap}
 use Rattle.primitives.specs.Follow.{Ok}
 use Rattle.repair.specs.Told.{Unlisted}
-use Rattle.repair.specs.PutTurn.{Walked}
+use Rattle.repair.proofs.PutTurn.{Walked}
 use Rattle.repair.proofs.put.put_all.Given as goal
 
 abbrev pub invariant-loop-o : goal.invariant-loop-o

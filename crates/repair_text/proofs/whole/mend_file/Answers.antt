@@ -11,8 +11,8 @@ use Rattle.image.specs.declared.Reading.{Reading}
 use Rattle.image.specs.declared.Reading.TheVariants.{Read}
 use Rattle.image.specs.Image.{after_reading, length_in, read_call}
 use Rattle.image.specs.Ways.{marked-long, same_shape}
-use Rattle.image.specs.Lent.{Lent}
-use Rattle.image.specs.Parts.{TakenFrom, taken, taken-shape}
+use Rattle.image.proofs.Lent.{Lent}
+use Rattle.image.proofs.Parts.{TakenFrom, taken, taken-shape}
 use Rattle.repair_text.specs.RepairText.{lines_of, image_of}
 use Rattle.repair_text.specs.Mends.{read-mends, repaired-mends}
 use Rattle.repair_text.proofs.whole.mend_file.Goals as goal

@@ -6,7 +6,7 @@ use lib.ListN.{length, take}
 use lib.Seq.{length-take-le, take_at}
 use Rattle.calls.specs.Ways.{allowed-true, shape-allowed}
 use Rattle.image.specs.Ways.{write-through}
-use Rattle.image.specs.Inverse.{file_left}
+use Rattle.image.proofs.Inverse.{file_left}
 use Rattle.repair_text.proofs.whole.put_image.Goals as goal
 
 pub slice_bounds-write_image-end : goal.slice_bounds-write_image-end

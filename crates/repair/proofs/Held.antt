@@ -17,8 +17,9 @@ use Rattle.sound.specs.Lists.{link-shape}
 use Rattle.sound.specs.Spares.{Spares, spared, spares-append, spares_then, link-spares}
 use Rattle.sound.specs.Live.{loose-live}
 use Rattle.repair.specs.Repair.{ended, tiles_anew, free_anew, bare, noted, tiles_on, tile_writes, put_last, put_all, repair}
-use Rattle.repair.specs.AnewTiles.{by-anew, on-append, writes-all}
-use Rattle.repair.specs.Mends.{Tiles, bare-fits, anew-tiled, bare-shape, mended_heap, repair-heap, mended-good}
+use Rattle.repair.proofs.AnewTiles.{by-anew, on-append, writes-all}
+use Rattle.repair.proofs.Mends.{Tiles, bare-fits, anew-tiled, bare-shape}
+use Rattle.repair.proofs.MendedHeap.{mended_heap, repair-heap, mended-good}
 
 -- s bytes from c on lie in one chunk of unsorted, or in the top
 pub data In (g : Heap) (c s : ℕ) : Type 0 where

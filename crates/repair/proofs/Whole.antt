@@ -19,7 +19,7 @@ use Rattle.audit_reached.specs.Reached.{reached_in, first_mark, reached_mark, Re
 use Rattle.audit_reached.specs.Tiled.{Tiled}
 use Rattle.repair.specs.Repair.{free?, tiles_anew, free_anew, bare, tiles_on, tile_writes, put_all, repair}
 use Rattle.repair.specs.Told.{Told, Anew, Bare, free_of, Unlisted, Mended}
-use Rattle.repair.specs.Mends.{Tiles, free-of-bare, bare-fits, bare-shape, bare-mem}
+use Rattle.repair.proofs.Mends.{Tiles, free-of-bare, bare-fits, bare-shape, bare-mem}
 
 -- ---- the marks of the walk tell what is free
 pub reached-told : (v : ℕ) (w r m : List ℕ) → ReachedBy v w r m → Told w m (free? v w r)

@@ -31,10 +31,10 @@ use Rattle.audit_reached.specs.Tiled.{Tiled, tiled-good}
 use Rattle.repair.specs.declared.Repaired.TheVariants as P
 use Rattle.repair.specs.Repair.{free?, repair}
 use Rattle.repair.specs.RepairCall.{after_repair, repaired, repair_by, repair_call}
-use Rattle.repair.specs.Mends.{repair-heap, repair-ends}
-use Rattle.repair.specs.Whole.{view-tiles, view-key}
-use Rattle.repair.specs.Ways.{left_is, by-sound, repair-cases}
-use Rattle.repair.specs.Held.{In, held_kept, free-freed}
+use Rattle.repair.proofs.MendedHeap.{repair-heap, repair-ends}
+use Rattle.repair.proofs.Whole.{view-tiles, view-key}
+use Rattle.repair.proofs.Ways.{left_is, by-sound, repair-cases}
+use Rattle.repair.proofs.Held.{In, held_kept, free-freed}
 
 -- a sound heap is left as it is
 pub sound-left : (a r : List ℕ) → Lent a r → SoundIn a r → repair_call a r ≡ after_repair a r P.Done

@@ -18,7 +18,8 @@ use Rattle.sound.specs.Frames.{apply-length}
 use Rattle.calls.specs.Ways.{allowed-true, shape-true, shape-allowed}
 use Rattle.image.specs.declared.Reading.TheVariants.{Read}
 use Rattle.image.specs.Image.{known?, record_bytes_by, image, length_at, record_at, image_bytes, marked?, version_in, length_in, lacked_record, record_in, arena_in, lacked, completed, after_reading, read_call}
-use Rattle.image.specs.Ways.{clash, never, both_yes, Fits, marked-long, fits-true, parts-long, heap-cases, read-cases}
+use Rattle.image.specs.Ways.{clash, never, both_yes, Fits, marked-long, fits-true, parts-long, heap-cases}
+use Rattle.image.proofs.Cases.{read-cases}
 
 -- ---- of a file of the newest version
 pub record-new : (f : List ℕ) → version_in f ≡ newest → record_in f ≡ take 1584 (drop 9 f)

@@ -13,8 +13,9 @@ use Rattle.calls.specs.Ways.{allowed-true, shape-true, shape-long, shape-allowed
 use Rattle.image.specs.declared.Reading.{Reading}
 use Rattle.image.specs.declared.Reading.TheVariants.{NoMark, NoVersion, WrongLength, Read}
 use Rattle.image.specs.Image.{known?, image, image_bytes, Written, written, write_call, marked?, version_in, record_in, arena_in, fits?, AfterReading, after_reading, heap_read, read_call, reading_numbers}
-use Rattle.image.specs.Ways.{clash, never, Fits, true-fits, length-image, write-through, heap-new, heap-cases, read_through, write-cases, read-cases}
-use Rattle.image.specs.Parts.{image-marked, image-version, image-length, image-record, image-arena, file-image, taken, taken-shape}
+use Rattle.image.specs.Ways.{clash, never, Fits, true-fits, length-image, write-through, heap-new, heap-cases, read_through, write-cases}
+use Rattle.image.proofs.Cases.{read-cases}
+use Rattle.image.proofs.Parts.{image-marked, image-version, image-length, image-record, image-arena, file-image, taken, taken-shape}
 use Rattle.image.specs.Audits.{zero-audit}
 
 -- ---- what a writing left in the file and answered; what a reading left in arena and record and answered

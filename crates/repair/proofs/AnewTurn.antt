@@ -14,7 +14,7 @@ use Rattle.sound.specs.Frames.{apply-append}
 use Rattle.audit_walks.specs.Tiles.{TilesOk, tiles-later, tile-read}
 use Rattle.audit_walks.specs.Marks.{unmet_mark, Flagging, starts_of}
 use Rattle.repair.specs.Repair.{ended, tiles_anew, tiles_on}
-use Rattle.repair.specs.AnewTiles.{on-append}
+use Rattle.repair.proofs.AnewTiles.{on-append}
 use Rattle.repair.specs.Told.{Told, Anew}
 
 -- ---- the tiles that a held chunk o of s bytes makes of itself and of g free bytes before it, and their writes

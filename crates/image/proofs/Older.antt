@@ -27,7 +27,7 @@ use Rattle.image.specs.declared.Reading.TheVariants.{Read}
 use Rattle.image.specs.Image.{known?, record_bytes_by, version_in, lacked_record, record_in, arena_in, lacked, completed, after_reading, heap_read, read_call}
 use Rattle.image.specs.Ways.{known-true, heap-new, heap-unsound, heap-completed, parts-long}
 use Rattle.image.specs.Completed.{Old, by-rules, lacked-sound}
-use Rattle.image.specs.Parts.{TakenFrom, taken, taken-shape}
+use Rattle.image.proofs.Parts.{TakenFrom, taken, taken-shape}
 
 -- ---- bytes of a file are bytes in its parts
 abbrev pub Small : List ℕ → Type 0

@@ -11,7 +11,8 @@ use Rattle.calls.specs.Ways.{allowed-true}
 use Rattle.image.specs.declared.Reading.{Reading}
 use Rattle.image.specs.declared.Reading.TheVariants.{NoMark, NoVersion, WrongLength, Read}
 use Rattle.image.specs.Image.{version_in, length_in, image_bytes, fits?, AfterReading, after_reading, read_call}
-use Rattle.image.specs.Ways.{clash, read-no-mark, read-no-version, read-wrong-length, read_through, read-cases}
+use Rattle.image.specs.Ways.{clash, read-no-mark, read-no-version, read-wrong-length, read_through}
+use Rattle.image.proofs.Cases.{read-cases}
 
 -- what is lent to read f into: a record, and an arena of the length that f says, unless that is none
 pub record Lent (f a r : List ℕ) : Type 0 where

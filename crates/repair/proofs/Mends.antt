@@ -2,24 +2,23 @@
 use Rattle.std.specs.Prelude.{◌≡◌, refl, List, [], ◌∷◌, ◌++◌, ◌⊎◌, Bool, ℕ, zero, suc, ◌+◌, ◌*◌, ◌≤◌, ◌<◌, ◌^◌, length, get_or, set, replicate}
 use Rattle.std.proofs.Common.{sym, ap, ◌∙◌, subst, append_assoc, append-nil, inl, not-suc-le-zero, arith, length-set, get_or-set_same, set-set}
 use Rattle.std.proofs.lemmas.List.{set-get_or}
-use Rattle.sizes.specs.Limits.{none32, none64, most_arena, cache_room, most_fast, large, unsorted, plain, mixed}
-use Rattle.sizes.specs.Sizes.{bin_of}
+use Rattle.sizes.specs.Limits.{none64, most_arena, large, unsorted, plain, mixed}
 use Rattle.sizes.specs.Layout.{key_word}
 use Rattle.machine.specs.Lists.{cnt}
 use Rattle.machine.specs.Count.{ind-same, cnt-append, cnt_all-set}
-use Rattle.machine.specs.Heap.{Tile, tile, Heap, bin, with_bin, top_of, top_size, starts, size_of, total, binned}
+use Rattle.machine.specs.Heap.{Tile, tile, Heap, bin, with_bin, top_of, top_size, starts, size_of, total}
 use Rattle.machine.specs.Writes.{Write, apply, Ran, ran, heap_of, writes, more}
 use Rattle.machine.specs.Skips.{skips}
-use Rattle.sound.specs.Relation.{all, tiled, tiles_at, chain_by, links, stand, Mem, Shape, falls, stack_size, Good}
+use Rattle.sound.specs.Relation.{all, tiled, tiles_at, chain_by, links, stand, Mem, Shape}
 use Rattle.sound.specs.Tiles.{tiled-split, tiled-join, end-even}
 use Rattle.sound.specs.Frames.{end-all, apply-length}
 use Rattle.sound.specs.Rings.{kind-case}
 use Rattle.sound.specs.Lists.{link-shape, link-mem}
 use Rattle.sound.specs.Opened.{cnt_all-none, of_none}
 use Rattle.sound.specs.Ends.{Ends, ends_more}
-use Rattle.repair.specs.Repair.{tiles_anew, free_anew, bare, tile_writes, put_last, put_all, repair}
+use Rattle.repair.specs.Repair.{tiles_anew, free_anew, bare, tile_writes, put_last, put_all}
 use Rattle.repair.specs.Told.{free_from}
-use Rattle.repair.specs.AnewTiles.{Fits, anew-fits, anew-told, writes-all, on-stands}
+use Rattle.repair.proofs.AnewTiles.{Fits, anew-fits, anew-told, writes-all, on-stands}
 
 -- what is asked of the heap that is mended: its tiles fill an allowed arena
 pub record Tiles (h : Heap) : Type 0 where
@@ -27,7 +26,7 @@ pub record Tiles (h : Heap) : Type 0 where
   pub sizes : tiled (all h)
 
 -- all but unsorted
-but-one : (n : ℕ) (l : List ℕ) (j : ℕ) → 2 ≤ j → (P : List ℕ → Type 0) → P [] → P (get_or ([] ∷ l ∷ replicate n []) j [])
+pub but-one : (n : ℕ) (l : List ℕ) (j : ℕ) → 2 ≤ j → (P : List ℕ → Type 0) → P [] → P (get_or ([] ∷ l ∷ replicate n []) j [])
 but-one n l zero u P p = absurd (omega (arith, u))
 but-one n l (suc zero) u P p = absurd (omega (arith, u))
 but-one n l (suc (suc j)) u P p = of_none n j P p
@@ -82,7 +81,7 @@ module _ (f : ℕ → Bool) (h : Heap) (t : Tiles h) where
       }
 
 -- ---- one after the other goes last in unsorted, and no other list, nor a tile, changes
-heap-more : {A : Type 0} (ws : List Write) (r : Ran A) → heap_of (more ws r) ≡ heap_of r
+pub heap-more : {A : Type 0} (ws : List Write) (r : Ran A) → heap_of (more ws r) ≡ heap_of r
 heap-more ws (ran h vs a) = refl
 
 abbrev with_bins : List (List ℕ) → Heap → Heap
@@ -115,49 +114,3 @@ put_all-ends (c ∷ l) h w s m own =
     (link-shape h unsorted c xs [] s hj lo (sym (append-nil xs)) (λ z. absurd (omega (arith, z))))
     (link-mem h w unsorted c xs [] s m hj lo (sym (append-nil xs)) (λ z. absurd (omega (arith, z))))
     (λ x. omega (arith, own x, cnt_all-set x h.bins unsorted (xs ++ c ∷ []) hj, cnt-append x xs (c ∷ []))))
-
--- ---- the whole: no list but unsorted, which has the free ones by rising offset
-abbrev pub mended_heap : (ℕ → Bool) → Heap → Heap
-mended_heap f h = record {
-  len = h.len;
-  tiles = tiles_anew f 0 0 h.tiles;
-  stacks = replicate 74 [];
-  bins = [] ∷ free_anew f 0 0 h.tiles ∷ replicate 125 [];
-  remainder = none32;
-  key = h.key;
-  edition = h.edition;
-}
-
-pub repair-heap : (f : ℕ → Bool) (h : Heap) → heap_of (repair f h) ≡ mended_heap f h
-unfolding repair
-repair-heap f h =
-    heap-more (tile_writes (bare f h)) (put_all (free_anew f 0 0 h.tiles) (bare f h))
-    ∙ put_all-heap (free_anew f 0 0 h.tiles) (bare f h) (omega arith)
-
-pub mended-good : (f : ℕ → Bool) (h : Heap) → Tiles h → Shape (mended_heap f h) → Good (mended_heap f h)
-mended-good f h t s =
-    let k : Heap = mended_heap f h in
-    let l : List ℕ = free_anew f 0 0 h.tiles in
-    record {
-      shape = s;
-      homes = record {
-        stacked = λ i x. of_none 74 i (λ z. 1 ≤ cnt x z → size_of k x ≡ stack_size i) (λ m. absurd (not-suc-le-zero m));
-        quick = λ i x p. of_none 74 i (λ z. 1 ≤ cnt x z → size_of k x ≤ most_fast) (λ m. absurd (not-suc-le-zero m));
-        short = λ i p. of_none 74 i (λ z. length z ≤ cache_room) (omega arith);
-        none = refl;
-        sorted = λ j x p. but-one 125 l j p (λ z. 1 ≤ cnt x z → bin_of (size_of k x) ≡ j) (λ m. absurd (not-suc-le-zero m));
-        falling = λ j p. but-one 125 l j (omega (arith, p)) (falls (λ x. size_of k x)) tt;
-      };
-      flag = (bare-fits f h t).flag (λ x. binned k x) (λ x i. omega (arith, cnt_all-none 125 x)) 0 (top_size k);
-    }
-
-pub repair-ends : (f : ℕ → Bool) (h : Heap) (w : List ℕ) → Tiles h → 8 * length w ≡ h.len → h.key < 2 ^ 64 → (h.edition ≡ plain) ⊎ (h.edition ≡ mixed)
-    → Ends (repair f h) w Good
-unfolding repair
-repair-ends f h w t e q ed =
-    let ws : List Write = tile_writes (bare f h) in
-    let l : List ℕ = free_anew f 0 0 h.tiles in
-    let k : Ends (repair f h) w Shape = ends_more ws (put_all l (bare f h))
-    (put_all-ends l (bare f h) (apply ws w) (bare-shape f h t) (bare-mem f h t w e q ed)
-    (λ x. omega (arith, (bare-fits f h t).own x, cnt_all-none 74 x, cnt_all-none 127 x))) in
-    record { mem = k.mem; now = subst Good (sym (repair-heap f h)) (mended-good f h t (subst Shape (repair-heap f h) k.now)) }

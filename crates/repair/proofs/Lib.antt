@@ -1,0 +1,10 @@
+pub mod AnewTiles
+pub mod Mends
+pub mod MendedHeap
+pub mod AnewTurn
+pub mod PutTurn
+pub mod Whole
+pub mod Ways
+pub mod Held
+pub mod Consequences
+pub mod LosesNone
