@@ -1,4 +1,4 @@
-// Histories of calls and holders' writes, and what every one of them comes to: specs/Theorem.antt has demand 3. The code performs a history's calls by the
+// Histories of calls and holders' writes, and what every one of them comes to: proofs/Theorem.antt has demand 3. The code performs a history's calls by the
 // exported calls, and answers C's three numbers.
 // Assumes nothing.
 #![tactic(auto)]

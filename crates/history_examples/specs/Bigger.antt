@@ -16,11 +16,11 @@ use Rattle.machine.specs.declared.Refusal.TheVariants as N
 use Rattle.machine.proofs.Script as X
 use Rattle.calls_consequences.specs.Results.{Lent}
 use Rattle.history.specs.Histories.{Event, Grant, Release, Resize, Emptying, Joining, Store, State, heap_at, arena_in, next, run, answers, Choice, begin}
-use Rattle.history.specs.Alike.{said, Always}
+use Rattle.history.proofs.Alike.{said, Always}
 use Rattle.history.specs.Like.{given, with_given, answer, up_to9, short?, FewIn, FewFrom, Few}
 use Rattle.history.specs.Agrees.{written, but_given, Agrees}
 use Rattle.history.specs.Bigger.{Premise}
-use Rattle.history.specs.BiggerHolds.{bigger-agrees}
+use Rattle.history.proofs.BiggerHolds.{bigger-agrees}
 use Rattle.le.specs.Number as L
 use Rattle.le.specs.Arena as B
 use Rattle.sizes.specs.Sizes as S

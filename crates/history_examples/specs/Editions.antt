@@ -8,7 +8,7 @@ use Rattle.machine.specs.declared.Answer.TheVariants.{Done, Granted}
 use Rattle.calls_consequences.specs.Results.{Lent}
 use Rattle.history.specs.Histories.{Event, Grant, Release, Resize, Store, State, arena_in, record_in, next, run, answers, Choice, Allowed, begin}
 use Rattle.history.specs.Agrees.{written, but_choice, Agrees}
-use Rattle.history.specs.Editions.{editions-agree}
+use Rattle.history.proofs.Editions.{editions-agree}
 use Rattle.history_examples.specs.Histories.{plainly, sample-lent}
 use Rattle.history_examples.specs.Bigger.{lent}
 use Rattle.le.specs.Number as L

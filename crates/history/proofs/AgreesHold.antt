@@ -14,11 +14,11 @@ use Rattle.history.specs.Histories.{Event, State, state, heap_at, arena_in, reco
 use Rattle.history.specs.Performed.{Did}
 use Rattle.history.specs.Agrees.{still, stored, written, Agrees, AgreesPerformed}
 use Rattle.history.specs.Ready.{ReadyAt}
-use Rattle.history.specs.Runs.{next-ready, run-ready}
-use Rattle.history.specs.PerformedRuns.{did-run, did-numbers}
-use Rattle.history.specs.Alike.{Steady, Alike, Always, alike-heaps, alike-blocks, next-alike, run-alike, answers-alike}
-use Rattle.history.specs.WrittenSame.{AllSame, all_same, event-same}
-use Rattle.history.specs.RecordBytes.{record-bytes}
+use Rattle.history.proofs.Runs.{next-ready, run-ready}
+use Rattle.history.proofs.PerformedRuns.{did-run, did-numbers}
+use Rattle.history.proofs.Alike.{Steady, Alike, Always, alike-heaps, alike-blocks, next-alike, run-alike, answers-alike}
+use Rattle.history.proofs.WrittenSame.{AllSame, all_same, event-same}
+use Rattle.history.proofs.RecordBytes.{record-bytes}
 
 good-at : (s : State) → ReadyAt s → Good (heap_at s)
 good-at (state a r bs) R = R.sound.good

@@ -8,13 +8,13 @@ use Rattle.calls_consequences.specs.Results.{Lent}
 use Rattle.history.specs.Histories.{Event, State, Choice, Allowed, begin}
 use Rattle.history.specs.Performed.{Began, Did}
 use Rattle.history.specs.Agrees.{but_choice, Agrees, AgreesPerformed}
-use Rattle.history.specs.PerformedRuns.{began-is, began-ready}
-use Rattle.history.specs.Runs.{begin-ready}
+use Rattle.history.proofs.PerformedRuns.{began-is, began-ready}
+use Rattle.history.proofs.Runs.{begin-ready}
 use Rattle.history.specs.Chosen.{with_choice}
-use Rattle.history.specs.Alike.{Alike, alike_of, ButChoice, Any, butchoice-steady, any-always}
-use Rattle.history.specs.RecordBytes.{records-choice}
-use Rattle.history.specs.AgreesHold.{alike-agrees, alike-performed}
-use Rattle.history.specs.Emptied.{begin-opened, begin-blocks}
+use Rattle.history.proofs.Alike.{Alike, alike_of, ButChoice, Any, butchoice-steady, any-always}
+use Rattle.history.proofs.RecordBytes.{records-choice}
+use Rattle.history.proofs.AgreesHold.{alike-agrees, alike-performed}
+use Rattle.history.proofs.Emptied.{begin-opened, begin-blocks}
 
 module _ (a r a' r' : List ℕ) (q q' : Choice) (L : Lent a r) (L' : Lent a' r') (k : Allowed q) (k' : Allowed q') (same : length a ≡ length a') where
   first : Alike (ButChoice q') (begin a r q) (begin a' r' q')

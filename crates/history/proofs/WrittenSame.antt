@@ -26,7 +26,7 @@ use Rattle.history.specs.Agrees.{still, along, resized_by, stored}
 use Rattle.history.specs.Ready.{held_at, Sized, Ready, ReadyAt, held-loose, held-once, drop-count, drop-none, sized-drop}
 use Rattle.history.specs.Called.{release-called}
 use Rattle.history.specs.Stores.{Within, within}
-use Rattle.history.specs.Spared.{Other, next-spares, resize-keeps, resize-refused-spares}
+use Rattle.history.proofs.Spared.{Other, next-spares, resize-keeps, resize-refused-spares}
 
 -- ---- the block that has a byte that the others do not have: the one dropped
 pub record Dropped (z : ℕ → ℕ) (m : ℕ) (bs : List Block) (p : ℕ) : Type 0 where

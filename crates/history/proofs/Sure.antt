@@ -25,7 +25,7 @@ use Rattle.calls_consequences.specs.Left.{lent-shape}
 use Rattle.history.specs.Demand3.{held?, LiveAt, AuditsAt, Fair, AllFair}
 use Rattle.history.specs.Ready.{held_at, Ready, ReadyAt}
 use Rattle.history.specs.Called.{grant-large, grant-called, release-called, job-called, Way, Null, Zero, Large, Dead, Through, way, resize_by, resize-called}
-use Rattle.history.specs.Runs.{begin-ready, next-ready, run-ready}
+use Rattle.history.proofs.Runs.{begin-ready, next-ready, run-ready}
 
 -- ---- live is held
 held_none : (bs : List Block) (m : ℕ) → held_at m bs ≡ 0 → held? bs m ≡ false

@@ -8,15 +8,15 @@ use Rattle.history.specs.Histories.{Event, Emptying, Joining, State, blocks_in, 
 use Rattle.history.specs.Performed.{Began, Did}
 use Rattle.history.specs.Demand3.{AllFair, LiveAt, MendedAt, Quiet, New, Demand}
 use Rattle.history.specs.Ready.{ReadyAt}
-use Rattle.history.specs.Runs.{run-ready}
-use Rattle.history.specs.Sure.{ready-audits, ready-fair, run-fair, run-live, emptying-numbers, joining-numbers}
-use Rattle.history.specs.Calm.{run-append, then_joined, run-mended}
+use Rattle.history.proofs.Runs.{run-ready}
+use Rattle.history.proofs.Sure.{ready-audits, ready-fair, run-fair, run-live, emptying-numbers, joining-numbers}
+use Rattle.history.proofs.Calm.{run-append, then_joined, run-mended}
 use Rattle.history.specs.Agrees.{but_choice, AgreesPerformed}
-use Rattle.history.specs.Alike.{Alike, ButChoice, Any, butchoice-steady, any-always}
-use Rattle.history.specs.RecordBytes.{records-choice}
-use Rattle.history.specs.AgreesHold.{alike-performed}
-use Rattle.history.specs.Emptied.{emptied-alike}
-use Rattle.history.specs.PerformedRuns.{began-is, began-zeros, began-ready, did-run, did-numbers}
+use Rattle.history.proofs.Alike.{Alike, ButChoice, Any, butchoice-steady, any-always}
+use Rattle.history.proofs.RecordBytes.{records-choice}
+use Rattle.history.proofs.AgreesHold.{alike-performed}
+use Rattle.history.proofs.Emptied.{emptied-alike}
+use Rattle.history.proofs.PerformedRuns.{began-is, began-zeros, began-ready, did-run, did-numbers}
 
 abbrev head_of : HeapAnswer → List HeapAnswer → HeapAnswer
 head_of y [] = y

@@ -17,7 +17,7 @@ use Rattle.history.specs.Demand3.{MendedAt, Between, Quiet}
 use Rattle.history.specs.Ready.{Ready, ReadyAt}
 use Rattle.history.specs.Called.{sound-in}
 use Rattle.history.specs.Stores.{store_view}
-use Rattle.history.specs.Runs.{begin-ready, next-ready, run-ready}
+use Rattle.history.proofs.Runs.{begin-ready, next-ready, run-ready}
 use Rattle.history.specs.Mending.{mending}
 
 -- no cache or fast list has a chunk, and there is no last remainder

@@ -18,7 +18,7 @@ use Rattle.calls_consequences.specs.Results.{Lent}
 use Rattle.calls_consequences.specs.Left.{left-length}
 use Rattle.history.specs.Ready.{Ready, ReadyAt}
 use Rattle.history.specs.Called.{open_lent, grant-large, grant-called, release-called, job-called, Way, Null, Zero, Large, Dead, Through, way, resize_by, resize-called}
-use Rattle.history.specs.Runs.{resized-null, resized-zero, next-ready}
+use Rattle.history.proofs.Runs.{resized-null, resized-zero, next-ready}
 
 module _ (a r : List ℕ) (bs : List Block) (R : Ready a r bs) where
   granted-length : (x : Ran Got) → length (arena_in (granted bs (C.granted a x))) ≡ length a

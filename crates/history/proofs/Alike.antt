@@ -33,7 +33,7 @@ use Rattle.history.specs.Called.{grant-large, grant-called, release-called, job-
 use Rattle.history.specs.Stores.{store_view}
 use Rattle.history.specs.Like.{Given, Like}
 use Rattle.history.specs.Chosen.{rechosen, with_choice, Chosen, grant-chosen, release-chosen, resize-chosen, emptying-chosen, joining-chosen}
-use Rattle.history.specs.Runs.{resized-null, resized-zero, next-ready}
+use Rattle.history.proofs.Runs.{resized-null, resized-zero, next-ready}
 
 -- what a grant's steps answer, and a resize's
 abbrev pub said : Ran Got → Answer

@@ -13,7 +13,7 @@ use Rattle.history.specs.Performed.{call_of, event_of, changed, held_after, Bega
 use Rattle.history.specs.Demand3.{Zeros}
 use Rattle.history.specs.Ready.{Ready, ReadyAt}
 use Rattle.history.specs.Called.{open_lent}
-use Rattle.history.specs.Runs.{begin-ready, next-ready}
+use Rattle.history.proofs.Runs.{begin-ready, next-ready}
 use Rattle.history.specs.declared.Call.{Call}
 use Rattle.history.specs.declared.Call.TheVariants as C
 

@@ -18,16 +18,16 @@ use Rattle.calls_consequences.specs.Written.{written_read}
 use Rattle.history.specs.Demand3.{Quiet}
 use Rattle.history.specs.Ready.{Ready, ReadyAt}
 use Rattle.history.specs.Called.{open_lent}
-use Rattle.history.specs.Runs.{begun, begin-ready, run-ready}
-use Rattle.history.specs.Lengths.{run_length, begin-length}
+use Rattle.history.proofs.Runs.{begun, begin-ready, run-ready}
+use Rattle.history.proofs.Lengths.{run_length, begin-length}
 use Rattle.history.specs.Mending.{last_of, adjacent, start-at}
-use Rattle.history.specs.Calm.{Calm, CalmAt, no_stack, then_joined, run-calm}
+use Rattle.history.proofs.Calm.{Calm, CalmAt, no_stack, then_joined, run-calm}
 use Rattle.history.specs.Agrees.{but_choice, Agrees}
 use Rattle.history.specs.Like.{given}
 use Rattle.history.specs.Chosen.{with_choice}
-use Rattle.history.specs.Alike.{Alike, alike_of, ButChoice, Any, butchoice-steady, any-always}
-use Rattle.history.specs.RecordBytes.{records-choice}
-use Rattle.history.specs.AgreesHold.{alike-agrees}
+use Rattle.history.proofs.Alike.{Alike, alike_of, ButChoice, Any, butchoice-steady, any-always}
+use Rattle.history.proofs.RecordBytes.{records-choice}
+use Rattle.history.proofs.AgreesHold.{alike-agrees}
 
 -- ---- an emptied heap is the opened one
 nothing-in : (l : List ℕ) → ((x : ℕ) → cnt x l ≡ 0) → l ≡ []

@@ -12,12 +12,12 @@ use Rattle.calls_consequences.specs.Results.{Lent}
 use Rattle.history.specs.Histories.{Event, State, heap_at, Choice, Allowed, begin}
 use Rattle.history.specs.Performed.{Began, Did}
 use Rattle.history.specs.Agrees.{but_given, Agrees, AgreesPerformed}
-use Rattle.history.specs.PerformedRuns.{began-is, began-ready}
-use Rattle.history.specs.Runs.{begin-ready}
-use Rattle.history.specs.Alike.{said, said-like, Steady, Alike, alike_of, Always}
-use Rattle.history.specs.RecordBytes.{records-given}
-use Rattle.history.specs.AgreesHold.{alike-agrees, alike-performed}
-use Rattle.history.specs.Emptied.{begin-opened, begin-blocks}
+use Rattle.history.proofs.PerformedRuns.{began-is, began-ready}
+use Rattle.history.proofs.Runs.{begin-ready}
+use Rattle.history.proofs.Alike.{said, said-like, Steady, Alike, alike_of, Always}
+use Rattle.history.proofs.RecordBytes.{records-given}
+use Rattle.history.proofs.AgreesHold.{alike-agrees, alike-performed}
+use Rattle.history.proofs.Emptied.{begin-opened, begin-blocks}
 use Rattle.history.specs.Like.{Given, given, with_given, answer, Like, up_to9, short?, Few, up_to9-len, grant-like, release-kin, emptying-kin, joining-like}
 use Rattle.history.specs.Bigger.{Premise}
 

@@ -1,0 +1,14 @@
+pub mod Runs
+pub mod Sure
+pub mod Calm
+pub mod Alike
+pub mod Lengths
+pub mod PerformedRuns
+pub mod Spared
+pub mod WrittenSame
+pub mod RecordBytes
+pub mod AgreesHold
+pub mod Emptied
+pub mod Theorem
+pub mod BiggerHolds
+pub mod Editions
