@@ -271,7 +271,7 @@
  * some grants and every joining do; so does a resize, or an emptying, with what
  * it releases. Give a call of grant, release, resize, emptying, joining, audit,
  * repair or read_image HEAP_STACK_BYTES of stack. The most that was measured is
- * 23,704, by a resize, and 21,992 by any other, over 600 random heaps, each
+ * 23,697, by a resize, and 21,985 by any other, over 600 random heaps, each
  * also damaged and repaired, and three where a release, a resize and an
  * emptying join the fast lists, of which 20,000 are marks, one for each 16
  * bytes of an arena in four sizes of array, of which a repair has the largest

@@ -1,6 +1,6 @@
 -- The audit is exact, by the rules of each version: it answers sound if and only if words and record are those of a sound heap, and that heap is the one that is
 -- read. Between the two stands what the audit's tests say (Spelled); the relation says the same by list, chunk and word. Assumes nothing.
-use Rattle.std.specs.Prelude.{◌≡◌, refl, List, [], ◌∷◌, ℕ, zero, suc, ◌+◌, ◌-◌, ◌*◌, ◌%◌, ◌^◌, ◌≤◌, ◌<◌, length, get_or, drop}
+use Rattle.std.specs.Prelude.{◌≡◌, refl, List, [], ◌∷◌, ℕ, zero, suc, ◌+◌, ◌-◌, ◌*◌, ◌%◌, ◌^◌, ◌≤◌, ◌<◌, length, get_or, drop, Ok}
 use Rattle.std.proofs.Common.{sym, ap, ◌∙◌, subst, inl, inr, ⊎_elim, not-suc-le-zero, arith, length-append, length-drop, get_or-drop, get_or-append-add, lt-ltb, le-ltb}
 use Rattle.std.proofs.Math.ListN.{get_or-append, get_or-eq_default}
 use Rattle.le.specs.Arena.{arena_words}
@@ -17,7 +17,6 @@ use Rattle.machine.specs.View.{size_at, low_at, up, kind_at, key_in, view}
 use Rattle.machine.specs.Audit.{lists, audit_by, audit_of}
 use Rattle.machine.specs.declared.ListKind.{ListKind}
 use Rattle.machine.specs.declared.ListKind.TheVariants.{Cache, Fast, Bin}
-use Rattle.machine.specs.declared.Audited.TheVariants as A
 use Rattle.sound.specs.Relation.{MemBy, Homes, Good, SoundBy, Sound, chain_by, links, stand, falls, stack_size}
 use Rattle.sound.specs.Tiles.{lt-or-le, tiled-split, tiled-join, Start, start, tiles-split, tiles-join}
 use Rattle.sound.specs.Lists.{links-chain}
@@ -194,10 +193,10 @@ module _ (v : ℕ) (h : Heap) (w r : List ℕ) (a : 8 * length w ≤ 262144) (s 
       last : (i : ℕ) (l : List ℕ) → ((x : ℕ) → 1 ≤ cnt x l → 1 ≤ cnt x (starts h)) → up (get_or r i 0) ≡ lst none64 l → get_or r i 0 ≡ lst none32 l
       last i l m e = let u = up-lst l (λ x k. small x (m x k)) in up_one (get_or r i 0) (lst none32 l) (b i) u.1 (e ∙ sym u.0)
 
-pub audit-good-by : (v : ℕ) (w r : List ℕ) → Arena w → audit_by v w r ≡ A.Sound → Good (view w r)
+pub audit-good-by : (v : ℕ) (w r : List ℕ) → Arena w → audit_by v w r ≡ Ok tt → Good (view w r)
 audit-good-by v w r a e = spelled-good v (view w r) w r a.small (audit-spelled v w r e)
 
-pub audit-sound-by : (v : ℕ) (w r : List ℕ) → Arena w → length r ≡ 396 → ((i : ℕ) → get_or r i 0 < 2 ^ 32) → audit_by v w r ≡ A.Sound → SoundBy v (view w r) w r
+pub audit-sound-by : (v : ℕ) (w r : List ℕ) → Arena w → length r ≡ 396 → ((i : ℕ) → get_or r i 0 < 2 ^ 32) → audit_by v w r ≡ Ok tt → SoundBy v (view w r) w r
 audit-sound-by v w r a n b e =
     let s = audit-spelled v w r e in
     record { good = audit-good-by v w r a e; mem = spelled-mem v (view w r) w r a.small s b; rec = spelled-record v (view w r) w r a.small s n b }
@@ -333,18 +332,18 @@ module _ (v : ℕ) (h : Heap) (w r : List ℕ) (s : SoundBy v h w r) where
 pub audit-read-by : (v : ℕ) (h : Heap) (w r : List ℕ) → SoundBy v h w r → view w r ≡ h
 audit-read-by v h w r s = spelled-read v h w r (arena-small v h w r s) (sound-spelled v h w r s)
 
-pub audit-complete-by : (v : ℕ) (h : Heap) (w r : List ℕ) → SoundBy v h w r → audit_by v w r ≡ A.Sound
+pub audit-complete-by : (v : ℕ) (h : Heap) (w r : List ℕ) → SoundBy v h w r → audit_by v w r ≡ Ok tt
 audit-complete-by v h w r s = spelled-audit v h w r (arena-small v h w r s) (sound-spelled v h w r s)
 
 -- ---- by the newest rules
-pub audit-good : (w r : List ℕ) → Arena w → audit_of w r ≡ A.Sound → Good (view w r)
+pub audit-good : (w r : List ℕ) → Arena w → audit_of w r ≡ Ok tt → Good (view w r)
 audit-good = audit-good-by newest
 
-pub audit-sound : (w r : List ℕ) → Arena w → length r ≡ 396 → ((i : ℕ) → get_or r i 0 < 2 ^ 32) → audit_of w r ≡ A.Sound → Sound (view w r) w r
+pub audit-sound : (w r : List ℕ) → Arena w → length r ≡ 396 → ((i : ℕ) → get_or r i 0 < 2 ^ 32) → audit_of w r ≡ Ok tt → Sound (view w r) w r
 audit-sound = audit-sound-by newest
 
 pub audit-read : (h : Heap) (w r : List ℕ) → Sound h w r → view w r ≡ h
 audit-read = audit-read-by newest
 
-pub audit-complete : (h : Heap) (w r : List ℕ) → Sound h w r → audit_of w r ≡ A.Sound
+pub audit-complete : (h : Heap) (w r : List ℕ) → Sound h w r → audit_of w r ≡ Ok tt
 audit-complete = audit-complete-by newest

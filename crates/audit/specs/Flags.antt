@@ -1,12 +1,12 @@
 -- Flags: the audit finds no flag fault exactly where the relation's flags hold of the tiles with the top, whose P is set. By induction on the tiles.
 -- Assumes nothing.
-use Rattle.std.specs.Prelude.{◌≡◌, refl, List, [], ◌∷◌, ◌++◌, Bool, true, false, ℕ, zero, suc, ◌+◌, ◌≤◌, eqb}
+use Rattle.std.specs.Prelude.{◌≡◌, refl, List, [], ◌∷◌, ◌++◌, Bool, true, false, ℕ, zero, suc, ◌+◌, ◌≤◌, eqb, Ok, Err}
 use Rattle.std.proofs.Common.{arith, eqb-true, eq-eqb, ne_eqb}
 use Rattle.std.proofs.lemmas.Bool.{eqb-false}
 use Rattle.machine.specs.Lists.{both}
 use Rattle.machine.specs.Heap.{Tile, tile, end_from}
 use Rattle.machine.specs.Audit.{flag_ok, flag_fault}
-use Rattle.machine.specs.declared.Audited.TheVariants as A
+use Rattle.machine.specs.declared.Fault.TheVariants as A
 use Rattle.sound.specs.Relation.{flags}
 use Rattle.sound.specs.Release.{both_true}
 use Rattle.audit_walks.specs.Tests.{sound-if}
@@ -41,18 +41,18 @@ flag-complete t (suc q) s b k =
 
 -- z: the top's size
 pub flags-sound : (b : ℕ → ℕ) (top : Tile) (z o q s : ℕ) (ts : List Tile) → ((x : ℕ) → b x ≤ 1) → b (end_from o ts) ≡ 0 → q ≤ 1 → noted ts
-    → flag_fault b top o q s ts ≡ A.Sound → flags b o q s (ts ++ tile z 1 0 ∷ []) × (top.p ≡ 1)
+    → flag_fault b top o q s ts ≡ Ok tt → flags b o q s (ts ++ tile z 1 0 ∷ []) × (top.p ≡ 1)
 unfolding flag_fault
 flags-sound b top z o q s [] h n hq m e =
-    let k = flag-sound top q s 1 hq (omega arith) (sound-if (flag_ok top q s 1) A.Sound (A.Flag o) refl e).0 in
+    let k = flag-sound top q s 1 hq (omega arith) (sound-if (flag_ok top q s 1) (Ok tt) (Err (A.Flag o)) refl e).0 in
     ((omega (arith, k.apart), omega (arith, k.apart), (λ y. absurd (omega (arith, y)), λ y. refl), tt), omega (arith, k.one, k.apart))
 flags-sound b top z o q s (t ∷ ts) h n hq m e =
-    let i = sound-if (flag_ok t q s (b o)) _ (A.Flag o) refl e in
+    let i = sound-if (flag_ok t q s (b o)) _ (Err (A.Flag o)) refl e in
     let k = flag-sound t q s (b o) hq (h o) i.0 in
     let r = flags-sound b top z (o + t.size) (b o) t.size ts h n (h o) m.1 i.1 in
     ((k.one, k.apart, (k.note, m.0), r.0), r.1)
 
-pub flags-complete : (b : ℕ → ℕ) (top : Tile) (z o q s : ℕ) (ts : List Tile) → top.p ≡ 1 → flags b o q s (ts ++ tile z 1 0 ∷ []) → flag_fault b top o q s ts ≡ A.Sound
+pub flags-complete : (b : ℕ → ℕ) (top : Tile) (z o q s : ℕ) (ts : List Tile) → top.p ≡ 1 → flags b o q s (ts ++ tile z 1 0 ∷ []) → flag_fault b top o q s ts ≡ Ok tt
 unfolding flag_fault
 flags-complete b top z o q s [] e k =
     rw (flag-complete top q s 1 (record { one = omega (arith, k.0, e); apart = omega (arith, k.0); note = λ y. absurd (omega (arith, y, e)) }), flag_fault)

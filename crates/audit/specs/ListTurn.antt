@@ -1,6 +1,6 @@
 -- The turns of the nested loop over lists and chunks, and its ways out: the answer from the chunk at hand on is the whole's, and so is what is left of the
 -- chunks. Neither loop's invariant speaks of the other. Where a list ends it is known to be good but for its skip links. Assumes nothing.
-use Rattle.std.specs.Prelude.{◌≡◌, refl, List, [], ◌∷◌, Bool, true, false, ℕ, zero, suc, ◌+◌, ◌-◌, ◌*◌, ◌/◌, ◌≤◌, ◌<◌, ltb, length, get_or, set, drop}
+use Rattle.std.specs.Prelude.{◌≡◌, refl, List, [], ◌∷◌, Bool, true, false, ℕ, zero, suc, ◌+◌, ◌-◌, ◌*◌, ◌/◌, ◌≤◌, ◌<◌, ltb, length, get_or, set, drop, Ok, Err}
 use Rattle.std.proofs.Math.Path.{sym, ap}
 use Rattle.std.proofs.Common.{◌∙◌, subst, le_of_suc-le-suc, not-suc-le-zero, arith, eq-eqb, ne_eqb, ltb-true, ltb-false}
 use Rattle.sizes.specs.Limits.{none64}
@@ -9,11 +9,10 @@ use Rattle.machine.specs.Lists.{both, cnt, cnt_all, has?, without, minus, tabula
 use Rattle.machine.specs.Count.{without-cnt, without-length}
 use Rattle.machine.specs.Mixing.{stored}
 use Rattle.machine.specs.View.{size_at, up, kind_at, head_word, chunks_by, edition_in, links_by, list_at, tiles_of}
-use Rattle.machine.specs.Audit.{may_stand, may_end, good_from, skips_ok, list_fault}
+use Rattle.machine.specs.Audit.{may_stand, may_end, good_from, skips_ok, list_fault, Audited}
 use Rattle.machine.specs.declared.ListKind.{ListKind}
 use Rattle.machine.specs.declared.ListKind.TheVariants.{Cache, Fast, Bin}
-use Rattle.machine.specs.declared.Audited.{Audited}
-use Rattle.machine.specs.declared.Audited.TheVariants as A
+use Rattle.machine.specs.declared.Fault.TheVariants as A
 use Rattle.audit_lists.specs.Owns.{Numbered}
 use Rattle.audit_lists.specs.Linked.{links_in, list_of, KindWalk}
 use Rattle.audit_lists.specs.Listed.{unmet, mark_of, tail_word}
@@ -75,7 +74,7 @@ bin-later x i l ls = go (ltb i 64) (ltb i 74) refl refl
 abbrev resume : ℕ → List ℕ → List ℕ → ListKind → ℕ → List ℕ → ℕ → ℕ → List ℕ → List (List ℕ) → Audited
 resume v w r k i left p n l ls = elim (both (good_from v k w r left p n l) (skips_ok v k w (list_of w r k))) [
   | true ↦ list_fault v w r (suc i) (minus left l) ls
-  | false ↦ A.List k
+  | false ↦ Err (A.List k)
 ]
 
 abbrev whole : ℕ → List ℕ → List ℕ → Audited
@@ -152,7 +151,7 @@ chunks-end d zero w c e = refl
 chunks-end d (suc f) w c e = rw (eq-eqb c none64 e, chunks_by)
 
 resume-bad : (v : ℕ) (w r : List ℕ) (k : ListKind) (i : ℕ) (left : List ℕ) (p n c : ℕ) (l : List ℕ) (ls : List (List ℕ)) → both (has? c left) (may_stand v k w r p n c) ≡ false
-    → resume v w r k i left p n (c ∷ l) ls ≡ A.List k
+    → resume v w r k i left p n (c ∷ l) ls ≡ Err (A.List k)
 unfolding good_from
 resume-bad v w r k i left p n c l ls e =
     let g : good_from v k w r left p n (c ∷ l) ≡ false = ap (λ (z : Bool). both z (good_from v k w r (without c left) c (suc n) l)) e in
@@ -166,35 +165,35 @@ good_more v k w r left p n c l e = ap (λ (z : Bool). both z (good_from v k w r 
 resume-more : (v : ℕ) (w r : List ℕ) (k : ListKind) (i : ℕ) (left : List ℕ) (p n c : ℕ) (l : List ℕ) (ls : List (List ℕ)) → both (has? c left) (may_stand v k w r p n c) ≡ true
     → resume v w r k i left p n (c ∷ l) ls ≡ resume v w r k i (without c left) c (suc n) l ls
 resume-more v w r k i left p n c l ls e =
-    ap (λ (z : Bool). elim (both z (skips_ok v k w (list_of w r k))) [ true ↦ list_fault v w r (suc i) (minus left (c ∷ l)) ls | false ↦ A.List k ])
+    ap (λ (z : Bool). elim (both z (skips_ok v k w (list_of w r k))) [ true ↦ list_fault v w r (suc i) (minus left (c ∷ l)) ls | false ↦ Err (A.List k) ])
     (good_more v k w r left p n c l e)
 
-end-false : (v : ℕ) (w r : List ℕ) (k : ListKind) (i : ℕ) (left : List ℕ) (p n : ℕ) (ls : List (List ℕ)) → may_end k r p n ≡ false → resume v w r k i left p n [] ls ≡ A.List k
+end-false : (v : ℕ) (w r : List ℕ) (k : ListKind) (i : ℕ) (left : List ℕ) (p n : ℕ) (ls : List (List ℕ)) → may_end k r p n ≡ false → resume v w r k i left p n [] ls ≡ Err (A.List k)
 unfolding good_from
 end-false v w r k i left p n ls h = let g : good_from v k w r left p n [] ≡ false = h in rw (g, resume)
 
 end-true : (v : ℕ) (w r : List ℕ) (k : ListKind) (i : ℕ) (left : List ℕ) (p n : ℕ) (ls : List (List ℕ)) (b : Bool) → may_end k r p n ≡ true → skips_ok v k w (list_of w r k) ≡ b
-    → resume v w r k i left p n [] ls ≡ elim b [ true ↦ list_fault v w r (suc i) left ls | false ↦ A.List k ]
+    → resume v w r k i left p n [] ls ≡ elim b [ true ↦ list_fault v w r (suc i) left ls | false ↦ Err (A.List k) ]
 unfolding good_from
 end-true v w r k i left p n ls b h s =
     let g : good_from v k w r left p n [] ≡ true = h in
-    ap (λ (z : Bool). elim (both z (skips_ok v k w (list_of w r k))) [ true ↦ list_fault v w r (suc i) left ls | false ↦ A.List k ]) g
-    ∙ ap (λ (z : Bool). elim z [ true ↦ list_fault v w r (suc i) left ls | false ↦ A.List k ]) s
+    ap (λ (z : Bool). elim (both z (skips_ok v k w (list_of w r k))) [ true ↦ list_fault v w r (suc i) left ls | false ↦ Err (A.List k) ]) g
+    ∙ ap (λ (z : Bool). elim z [ true ↦ list_fault v w r (suc i) left ls | false ↦ Err (A.List k) ]) s
 
 module _ (v : ℕ) (w r m : List ℕ) (k : ListKind) (i p q n c : ℕ) (o : In v w r m k i p q n c) where
-  list-bad : (m' : List ℕ) → (c ≡ none64 → ⊥) → both (has? c o.left) (may_stand v k w r p n c) ≡ false → ListsDone v w r (A.List k) m'
+  list-bad : (m' : List ℕ) → (c ≡ none64 → ⊥) → both (has? c o.left) (may_stand v k w r p n c) ≡ false → ListsDone v w r (Err (A.List k)) m'
   list-bad m' ne e = go o.f o.fuel o.same
     where
-      go : (f : ℕ) → length o.left < f → resume v w r k i o.left p n (chunks_by (links_in r k) f w c) (drop (suc i) (lists_of w r)) ≡ whole v w r → ListsDone v w r (A.List k) m'
+      go : (f : ℕ) → length o.left < f → resume v w r k i o.left p n (chunks_by (links_in r k) f w c) (drop (suc i) (lists_of w r)) ≡ whole v w r → ListsDone v w r (Err (A.List k)) m'
       go zero b s = absurd (not-suc-le-zero b)
       go (suc f) b s = record {
         is = sym (ap (λ (l : List ℕ). resume v w r k i o.left p n l (drop (suc i) (lists_of w r))) (chunks-more (links_in r k) f w c ne)
             ∙ resume-bad v w r k i o.left p n c _ _ e) ∙ s;
-        marks = λ y. not_sound (A.List k) refl y;
+        marks = λ y. not_sound (Err (A.List k)) refl y;
       }
 
   -- c is no chunk, or was met; c may not stand there
-  pub list-met : (t : Bool) (m' : List ℕ) → (c ≡ none64 → ⊥) → t ≡ unmet m c → t ≡ false → ListsDone v w r (A.List k) m'
+  pub list-met : (t : Bool) (m' : List ℕ) → (c ≡ none64 → ⊥) → t ≡ unmet m c → t ≡ false → ListsDone v w r (Err (A.List k)) m'
   list-met t m' ne e z =
       let h : has? c o.left ≡ false = sym (unmet-has w m o.left o.b o.marks c) ∙ sym e ∙ z in
       list-bad m' ne (ap (λ (y : Bool). both y (may_stand v k w r p n c)) h)
@@ -202,7 +201,7 @@ module _ (v : ℕ) (w r m : List ℕ) (k : ListKind) (i p q n c : ℕ) (o : In v
   has-true : (t : Bool) → t ≡ unmet m c → t ≡ true → has? c o.left ≡ true
   has-true t e z = sym (unmet-has w m o.left o.b o.marks c) ∙ sym e ∙ z
 
-  pub list-misplaced : (t u : Bool) (m' : List ℕ) → (c ≡ none64 → ⊥) → t ≡ unmet m c → t ≡ true → u ≡ may_stand v k w r p n c → u ≡ false → ListsDone v w r (A.List k) m'
+  pub list-misplaced : (t u : Bool) (m' : List ℕ) → (c ≡ none64 → ⊥) → t ≡ unmet m c → t ≡ true → u ≡ may_stand v k w r p n c → u ≡ false → ListsDone v w r (Err (A.List k)) m'
   list-misplaced t u m' ne e z g y = list-bad m' ne (ap (λ (x : Bool). both x (may_stand v k w r p n c)) (has-true t e z) ∙ sym g ∙ y)
 
   pub list-turn : (t u : Bool) (s : ℕ) → (c ≡ none64 → ⊥) → t ≡ unmet m c → t ≡ true → u ≡ may_stand v k w r p n c → u ≡ true → s ≡ size_at w c
@@ -253,11 +252,11 @@ module _ (v : ℕ) (w r m : List ℕ) (k : ListKind) (i p q n c : ℕ) (o : In v
           }
 
   -- where the list ends
-  pub list-end-bad : (t : Bool) (m' : List ℕ) → c ≡ none64 → t ≡ may_end k r p n → t ≡ false → ListsDone v w r (A.List k) m'
+  pub list-end-bad : (t : Bool) (m' : List ℕ) → c ≡ none64 → t ≡ may_end k r p n → t ≡ false → ListsDone v w r (Err (A.List k)) m'
   list-end-bad t m' e g z = record {
     is = sym (ap (λ (y : List ℕ). resume v w r k i o.left p n y (drop (suc i) (lists_of w r))) (chunks-end (links_in r k) o.f w c e)
         ∙ end-false v w r k i o.left p n (drop (suc i) (lists_of w r)) (sym g ∙ z)) ∙ o.same;
-    marks = λ y. not_sound (A.List k) refl y;
+    marks = λ y. not_sound (Err (A.List k)) refl y;
   }
 
   -- a list that ends rightly: it can be walked; its skip links are wrong; they are right
@@ -267,13 +266,13 @@ module _ (v : ℕ) (w r m : List ℕ) (k : ListKind) (i p q n c : ℕ) (o : In v
       good-walk v k w r o.left₀ ok small o.part₀ o.few₀ (o.begun ∙ ap (good_from v k w r o.left p n) (chunks-end (links_in r k) o.f w c e) ∙ sym g ∙ z)
 
   ended : (t u : Bool) → c ≡ none64 → t ≡ may_end k r p n → t ≡ true → u ≡ skips_ok v k w (list_of w r k)
-      → elim u [ true ↦ list_fault v w r (suc i) o.left (drop (suc i) (lists_of w r)) | false ↦ A.List k ] ≡ whole v w r
+      → elim u [ true ↦ list_fault v w r (suc i) o.left (drop (suc i) (lists_of w r)) | false ↦ Err (A.List k) ] ≡ whole v w r
   ended t u e g z s =
       sym (ap (λ (y : List ℕ). resume v w r k i o.left p n y (drop (suc i) (lists_of w r))) (chunks-end (links_in r k) o.f w c e)
       ∙ end-true v w r k i o.left p n (drop (suc i) (lists_of w r)) u (sym g ∙ z) (sym s)) ∙ o.same
 
-  pub list-unlinked : (t u : Bool) (m' : List ℕ) → c ≡ none64 → t ≡ may_end k r p n → t ≡ true → u ≡ skips_ok v k w (list_of w r k) → u ≡ false → ListsDone v w r (A.List k) m'
-  list-unlinked t u m' e g z s y = record { is = ended t false e g z (sym y ∙ s); marks = λ y. not_sound (A.List k) refl y }
+  pub list-unlinked : (t u : Bool) (m' : List ℕ) → c ≡ none64 → t ≡ may_end k r p n → t ≡ true → u ≡ skips_ok v k w (list_of w r k) → u ≡ false → ListsDone v w r (Err (A.List k)) m'
+  list-unlinked t u m' e g z s y = record { is = ended t false e g z (sym y ∙ s); marks = λ y. not_sound (Err (A.List k)) refl y }
 
   pub list-leave : (t u : Bool) → c ≡ none64 → t ≡ may_end k r p n → t ≡ true → u ≡ skips_ok v k w (list_of w r k) → u ≡ true → Out v w r m (i + 1)
   list-leave t u e g z s y =
@@ -318,7 +317,7 @@ drop-none : (x n : ℕ) → cnt_all x (drop n []) ≡ 0
 drop-none x zero = refl
 drop-none x (suc n) = refl
 
-pub lists-done : (v : ℕ) (w r m : List ℕ) (i : ℕ) → 200 ≤ i → i ≤ 200 → Out v w r m i → ListsDone v w r A.Sound m
+pub lists-done : (v : ℕ) (w r m : List ℕ) (i : ℕ) → 200 ≤ i → i ≤ 200 → Out v w r m i → ListsDone v w r (Ok tt) m
 unfolding list_fault
 lists-done v w r m i h l o =
     let d : drop i (lists_of w r) ≡ [] = drop_all i (lists_of w r) (omega (arith, lists_of-length w r)) in

@@ -1,6 +1,6 @@
 -- Lists: what a heap's lists are in words and record, and that the audit by version v finds no list fault exactly then, in the lists that are read. By
 -- induction on the lists and their chunks; the chunks not met before are a list that shrinks. Assumes nothing.
-use Rattle.std.specs.Prelude.{◌≡◌, refl, List, [], ◌∷◌, Bool, true, false, ℕ, zero, suc, ◌+◌, ◌≤◌, ◌<◌, eqb, length, get_or}
+use Rattle.std.specs.Prelude.{◌≡◌, refl, List, [], ◌∷◌, Bool, true, false, ℕ, zero, suc, ◌+◌, ◌≤◌, ◌<◌, eqb, length, get_or, Ok, Err}
 use Rattle.std.proofs.Common.{sym, ap, ◌∙◌, not-suc-le-zero, le_of_suc-le-suc, arith, ltb-true, eqb-true, lt-ltb, ne_eqb}
 use Rattle.sizes.specs.Limits.{none64}
 use Rattle.sizes.specs.Layout.{fwd_word}
@@ -11,7 +11,7 @@ use Rattle.machine.specs.MixingLaws.{stored-twice}
 use Rattle.machine.specs.View.{up, chunks_by, kind_at, head_word, list_at}
 use Rattle.machine.specs.Audit.{may_stand, may_end, good_from, skips_ok, list_fault}
 use Rattle.machine.specs.declared.ListKind.{ListKind}
-use Rattle.machine.specs.declared.Audited.TheVariants as A
+use Rattle.machine.specs.declared.Fault.TheVariants as A
 use Rattle.sound.specs.Relation.{chain_by}
 use Rattle.sound.specs.Release.{both_true}
 use Rattle.audit_lists.specs.Linked.{links_in}
@@ -114,7 +114,7 @@ suit-all v w r i (l ∷ ls) h =
     let e : i + 0 ≡ i = omega arith in
     (rw e at (h 0 (omega arith)), suit-all v w r (suc i) ls (λ n b. let g : i + suc n ≡ suc i + n = omega arith in rw g at (h (suc n) (omega arith))))
 
-pub lists-sound : (v n i : ℕ) (w r left : List ℕ) → length left < length w → list_fault v w r i left (tabulate n (list_at w r) i) ≡ A.Sound
+pub lists-sound : (v n i : ℕ) (w r left : List ℕ) → length left < length w → list_fault v w r i left (tabulate n (list_at w r) i) ≡ Ok tt
     → suit_all v w r i (tabulate n (list_at w r) i)
     × ((x : ℕ) → cnt x (minus_all left (tabulate n (list_at w r) i)) + cnt_all x (tabulate n (list_at w r) i) ≡ cnt x left)
 unfolding list_fault list_at
@@ -124,13 +124,13 @@ lists-sound v (suc n) i w r left b e =
     let m : List ℕ = chunks_by (links_in r (kind_at i)) (length w) w c in
     let g : Bool = good_from v (kind_at i) w r left none64 0 m in
     let k : Bool = skips_ok v (kind_at i) w m in
-    let s = sound-if (both g k) _ (A.List (kind_at i)) refl e in
+    let s = sound-if (both g k) _ (Err (A.List (kind_at i))) refl e in
     let t = both_true g k s.0 in
     let l = list-sound v (length w) (kind_at i) w r left none64 0 c b t.0 in
     let u = lists-sound v n (suc i) w r (minus left m) (omega (arith, l.len)) s.1 in
     (((l.head, l.links, l.good, t.1), u.0), λ x. omega (arith, u.1 x, l.cnts x))
 
-pub lists-complete : (v i : ℕ) (w r left : List ℕ) (ls : List (List ℕ)) → suit_all v w r i ls → ((x : ℕ) → cnt_all x ls ≤ cnt x left) → list_fault v w r i left ls ≡ A.Sound
+pub lists-complete : (v i : ℕ) (w r left : List ℕ) (ls : List (List ℕ)) → suit_all v w r i ls → ((x : ℕ) → cnt_all x ls ≤ cnt x left) → list_fault v w r i left ls ≡ Ok tt
 unfolding list_fault
 lists-complete v i w r left [] s h = refl
 lists-complete v i w r left (l ∷ ls) s h =

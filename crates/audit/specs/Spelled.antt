@@ -1,6 +1,6 @@
 -- What words and record that spell a heap say, as the audit's tests by version v say it; the audit answers sound exactly then, and that heap is the one that is
 -- read. The parts of the audit put together. Assumes nothing.
-use Rattle.std.specs.Prelude.{◌≡◌, refl, List, [], ◌∷◌, ◌++◌, true, ◌⊎◌, ℕ, zero, suc, ◌+◌, ◌*◌, ◌≤◌, ◌<◌, eqb, length, get_or, take, drop}
+use Rattle.std.specs.Prelude.{◌≡◌, refl, List, [], ◌∷◌, ◌++◌, true, ◌⊎◌, ℕ, zero, suc, ◌+◌, ◌*◌, ◌≤◌, ◌<◌, eqb, length, get_or, take, drop, Ok, Err}
 use Rattle.std.proofs.Common.{sym, ap, ◌∙◌, subst, inl, inr, ⊎_elim, not-suc-le-zero, arith, length-append, length-drop, take_at, drop_at, eqb-true, eq-eqb}
 use Rattle.sizes.specs.Limits.{plain, mixed}
 use Rattle.sizes.specs.Layout.{length_word, top_word, remainder_word}
@@ -9,7 +9,7 @@ use Rattle.machine.specs.Count.{pigeons}
 use Rattle.machine.specs.Heap.{Heap, starts, top_of, top_size, total, binned, bin}
 use Rattle.machine.specs.View.{low_at, tile_at, tiles_from, tiles_of, list_at, stacks_of, bins_of, key_in, edition_in, view}
 use Rattle.machine.specs.Audit.{edition?, record_fault, tile_fault, list_fault, lists, fault_in, audit_by}
-use Rattle.machine.specs.declared.Audited.TheVariants as A
+use Rattle.machine.specs.declared.Fault.TheVariants as A
 use Rattle.sound.specs.Relation.{all, flags}
 use Rattle.sound.specs.Tiles.{Start, start, starts-once}
 use Rattle.sound.specs.Release.{both_true}
@@ -87,7 +87,7 @@ binned-later w r x =
     omega (arith, ap (cnt_all x) (sym d ∙ ap (drop 74) (view-lists w r)))
 
 -- ---- the audit answers sound: words and record spell what is read
-pub lists_of-sound : (v : ℕ) (w r left : List ℕ) → length left < length w → list_fault v w r 0 left (lists_of w r) ≡ A.Sound
+pub lists_of-sound : (v : ℕ) (w r left : List ℕ) → length left < length w → list_fault v w r 0 left (lists_of w r) ≡ Ok tt
     → suit_all v w r 0 (lists_of w r) × ((x : ℕ) → cnt x (minus_all left (lists_of w r)) + cnt_all x (lists_of w r) ≡ cnt x left)
 unfolding lists_of
 lists_of-sound v w r left b e = lists-sound v 200 0 w r left b e
@@ -99,13 +99,13 @@ edition-out d e = ⊎_elim (λ z. inl (eqb-true d plain z)) (λ z. inr (eqb-true
 pub edition-in : (d : ℕ) → (d ≡ plain) ⊎ (d ≡ mixed) → edition? d ≡ true
 edition-in d e = ⊎_elim (λ z. either_left (eqb d plain) _ (eq-eqb d plain z)) (λ z. either-right (eqb d plain) _ (eq-eqb d mixed z)) e
 
-pub audit-spelled : (v : ℕ) (w r : List ℕ) → audit_by v w r ≡ A.Sound → Spelled v (view w r) w r
+pub audit-spelled : (v : ℕ) (w r : List ℕ) → audit_by v w r ≡ Ok tt → Spelled v (view w r) w r
 unfolding audit_by tiles_of
 audit-spelled v w r e =
     let h : Heap = view w r in
     let e₁ = first-sound (record_fault w r) _ e in
     let re = both_true (eqb (get_or r length_word 0) (8 * length w)) (edition? (edition_in r))
-    (sound-if (both (eqb (get_or r length_word 0) (8 * length w)) (edition? (edition_in r))) A.Sound A.Record refl e₁.0).0 in
+    (sound-if (both (eqb (get_or r length_word 0) (8 * length w)) (edition? (edition_in r))) (Ok tt) (Err A.Record) refl e₁.0).0 in
     let e₂ = first-sound (tile_fault w (get_or r top_word 0) 0 h.tiles) _ e₁.1 in
     let e₃ = first-sound (list_fault v w r 0 (starts h) (lists h)) _ e₂.1 in
     let t = tiles-sound (length w) w (get_or r top_word 0) 0 e₂.0 in
@@ -169,7 +169,7 @@ spelled-read v h w r a s =
     made h w r s.long et es (ap (λ (bs : List (List ℕ)). [] ∷ bs) eb ∙ cons-first h.bins (omega (arith, s.bins)) s.none) s.rest s.key s.edition
 
 -- ---- and the audit answers sound
-no-fault : (v : ℕ) (h : Heap) (w r : List ℕ) → Spelled v h w r → fault_in v h w r ≡ A.Sound
+no-fault : (v : ℕ) (h : Heap) (w r : List ℕ) → Spelled v h w r → fault_in v h w r ≡ Ok tt
 no-fault v h w r s =
     rw (eq-eqb (get_or r length_word 0) (8 * length w) s.len, record_fault)
     (rw (ap edition? s.edition ∙ edition-in h.edition s.edited)
@@ -178,6 +178,6 @@ no-fault v h w r s =
     (rw (lists-complete v 0 w r (starts h) (lists h) s.listed (λ x. omega (arith, total-lists x h s.none, s.own x)))
     (flags-complete (binned h) (tile_at w (top_of h)) (top_size h) 0 0 0 h.tiles s.top_p s.flagged)))))
 
-pub spelled-audit : (v : ℕ) (h : Heap) (w r : List ℕ) → 8 * length w ≤ 262144 → Spelled v h w r → audit_by v w r ≡ A.Sound
+pub spelled-audit : (v : ℕ) (h : Heap) (w r : List ℕ) → 8 * length w ≤ 262144 → Spelled v h w r → audit_by v w r ≡ Ok tt
 unfolding audit_by
 spelled-audit v h w r a s = ap (λ (g : Heap). fault_in v g w r) (spelled-read v h w r a s) ∙ no-fault v h w r s

@@ -8,10 +8,10 @@ ghost use Rattle.audit_lists.specs.Listed.{unmet};
 ghost use Rattle.audit_walks.specs.Marks.{ArenaBytes, Bytes, Clear};
 ghost use Rattle.audit.specs.Looks.{look_by, look_at};
 
-use crate::{Look, audit_marks};
+use crate::audit_marks;
 use audit_walks::UNMARKED;
 use chunk_fields::Link;
-use machine::Audited;
+use machine::Fault;
 use sizes::{Mem, NEWEST};
 
 // Whether the marks of an audit say that mem is a live block's.
@@ -24,22 +24,16 @@ fn is_live(m: &[u8], mem: Mem) -> bool
     audit_lists::unmet(m, Link(mem.chunk().0))
 }
 
-fn look_with(a: &[u8], r: &[u32], m: &mut [u8], v: u32, mem: Mem) -> Look
+fn look_with(a: &[u8], r: &[u32], m: &mut [u8], v: u32, mem: Mem) -> Result<bool, Fault>
     requires { Bytes a.now m.old × (length r.now ≡ 396) × Clear m.old }
     ensures { result ≡ look_by v (arena_words a.now) r.now mem.0 }
 {
-    let f = audit_marks(a, r, m, v);
-    if !machine::is_sound(f) {
-        return Look::Faulty(f);
-    }
-    if is_live(m, mem) {
-        return Look::Live;
-    }
-    Look::NotLive
+    audit_marks(a, r, m, v)?;
+    Ok(is_live(m, mem))
 }
 
 // The marks are cleared in four sizes, never more bytes than the arena has, since an array has one length in this language.
-fn look_by(a: &[u8], r: &[u32], v: u32, mem: Mem) -> Look
+fn look_by(a: &[u8], r: &[u32], v: u32, mem: Mem) -> Result<bool, Fault>
     requires { ArenaBytes a.now × (length r.now ≡ 396) }
     ensures { result ≡ look_by v (arena_words a.now) r.now mem.0 }
 {
@@ -60,7 +54,7 @@ fn look_by(a: &[u8], r: &[u32], v: u32, mem: Mem) -> Look
 }
 
 // By the newest rules.
-pub fn look_at(a: &[u8], r: &[u32], mem: Mem) -> Look
+pub fn look_at(a: &[u8], r: &[u32], mem: Mem) -> Result<bool, Fault>
     requires { ArenaBytes a.now × (length r.now ≡ 396) }
     ensures { result ≡ look_at (arena_words a.now) r.now mem.0 }
 {
@@ -68,18 +62,15 @@ pub fn look_at(a: &[u8], r: &[u32], mem: Mem) -> Look
 }
 
 // The audit by version v of the rules. The answer does not depend on the block that a look asks about.
-pub fn audit_by(a: &[u8], r: &[u32], v: u32) -> Audited
+pub fn audit_by(a: &[u8], r: &[u32], v: u32) -> Result<(), Fault>
     requires { ArenaBytes a.now × (length r.now ≡ 396) }
     ensures { result ≡ audit_by v (arena_words a.now) r.now }
 {
-    match look_by(a, r, v, Mem(0)) {
-        Look::Faulty(f) => f,
-        Look::NotLive => Audited::Sound,
-        Look::Live => Audited::Sound,
-    }
+    look_by(a, r, v, Mem(0))?;
+    Ok(())
 }
 
-pub fn audit_words(a: &[u8], r: &[u32]) -> Audited
+pub fn audit_words(a: &[u8], r: &[u32]) -> Result<(), Fault>
     requires { ArenaBytes a.now × (length r.now ≡ 396) }
     ensures { result ≡ audit_of (arena_words a.now) r.now }
 {

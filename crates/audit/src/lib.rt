@@ -15,16 +15,8 @@ ghost use Rattle.audit.specs.Done.{AuditDone};
 
 pub use call_look::{audit_by, audit_words, look_at};
 use chunk_fields::edition_in;
-use machine::Audited;
+use machine::Fault;
 use sizes::{Chunk, MIXED, PLAIN};
-
-// What a call finds before it writes.
-#[derive(Clone, Copy)]
-pub enum Look {
-    Faulty(Audited),
-    NotLive,
-    Live,
-}
 
 // Whether there is an edition d.
 pub fn is_edition(d: u32) -> bool
@@ -34,24 +26,18 @@ pub fn is_edition(d: u32) -> bool
 }
 
 // The marks m, all clear and one for each 16 bytes of arena, are lent: in a sound heap the unmet chunks are then exactly the live blocks.
-pub fn audit_marks(a: &[u8], r: &[u32], m: &mut [u8], v: u32) -> Audited
+pub fn audit_marks(a: &[u8], r: &[u32], m: &mut [u8], v: u32) -> Result<(), Fault>
     requires { Bytes a.now m.old × (length r.now ≡ 396) × Clear m.old }
     ensures { AuditDone v (arena_words a.now) r.now result m.new }
 {
     if r[sizes::LENGTH_WORD] as usize != a.len() {
-        return Audited::Record;
+        return Err(Fault::Record);
     }
     if !is_edition(edition_in(r)) {
-        return Audited::Record;
+        return Err(Fault::Record);
     }
     let top = Chunk(r[sizes::TOP_WORD] as u64);
-    let t = audit_walks::tile_fault(a, top, m);
-    if !machine::is_sound(t) {
-        return t;
-    }
-    let l = lists::list_fault(a, r, m, v);
-    if !machine::is_sound(l) {
-        return l;
-    }
+    audit_walks::tile_fault(a, top, m)?;
+    lists::list_fault(a, r, m, v)?;
     audit_walks::flag_fault(a, top, m)
 }

@@ -1,2 +1,2 @@
-pub mod Skips
 pub mod Runs
+pub mod Skips

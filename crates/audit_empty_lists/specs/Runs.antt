@@ -1,14 +1,12 @@
 -- Runs of empty lists: a list is empty by its words, several are by all their words at once, and one run continues another. Assumes nothing.
-use Rattle.std.specs.Prelude.{◌≡◌, refl, List, Bool, true, false, ℕ, zero, suc, ◌+◌, ◌-◌, ◌*◌, ◌≤◌, ◌<◌, ltb, get_or}
-use Rattle.std.proofs.Common.{sym, ◌∙◌, subst, ⊎_elim, add_assoc, arith, eq-eqb, lt-ltb, le-ltb, ltb-true, ltb-false}
-use Rattle.std.specs.Int.Bits.{bit_and, bit_or, or_add_and}
-use Rattle.std.proofs.lemmas.Nat.{and_le_l, and_le_r}
+use Rattle.std.specs.Prelude.{◌≡◌, refl, List, Bool, true, false, ℕ, ◌+◌, ◌-◌, ◌*◌, ◌≤◌, ◌<◌, ltb, get_or}
+use Rattle.std.proofs.Common.{sym, subst, ⊎_elim, add_assoc, arith, eq-eqb, lt-ltb, le-ltb, ltb-true, ltb-false}
 use Rattle.sizes.specs.Limits.{none64, none32}
 use Rattle.sizes.specs.Layout.{cache_head, cache_count, fast_head, bin_first, bin_last}
 use Rattle.machine.specs.Count.{eq?}
 use Rattle.machine.specs.View.{up, kind_at}
 use Rattle.machine.specs.declared.ListKind.TheVariants.{Cache, Fast, Bin}
-use Rattle.audit_empty_lists.specs.Skips.{four_and, four_or, AllFrom, Empty, Skipped}
+use Rattle.audit_empty_lists.specs.Skips.{AllFrom, Empty, Skipped}
 
 -- ---- a list's number, known: it is empty by its words
 up_none : (v : ℕ) → v ≡ none32 → up v ≡ none64
@@ -28,56 +26,6 @@ bin-empty : (r : List ℕ) (i : ℕ) → 74 ≤ i → get_or r (bin_first (i - 7
 bin-empty r i g h e =
     let k : kind_at i ≡ Bin (i - 73) = rw (le-ltb i 64 (omega arith), kind_at) (rw (le-ltb i 74 g)) in
     subst (Empty r) (sym k) (up_none (get_or r (bin_first (i - 73)) 0) h, eq-eqb (up (get_or r (bin_last (i - 73)) 0)) none64 (up_none (get_or r (bin_last (i - 73)) 0) e))
-
--- ---- four words in a row, one by one; eight
-all-four : (r : List ℕ) (f v : ℕ) → get_or r f 0 ≡ v → get_or r (f + 1) 0 ≡ v → get_or r (f + 2) 0 ≡ v → get_or r (f + 3) 0 ≡ v → AllFrom r f 4 v
-all-four r f v a b c d zero q = let e : f + 0 ≡ f = omega arith in rw e a
-all-four r f v a b c d (suc zero) q = b
-all-four r f v a b c d (suc (suc zero)) q = c
-all-four r f v a b c d (suc (suc (suc zero))) q = d
-all-four r f v a b c d (suc (suc (suc (suc i)))) q = absurd (omega (arith, q))
-
-all-eight : (r : List ℕ) (f v : ℕ) → AllFrom r f 4 v → AllFrom r (f + 4) 4 v → AllFrom r f 8 v
-all-eight r f v a b i q = go (ltb i 4) refl
-  where
-    go : (t : Bool) → ltb i 4 ≡ t → get_or r (f + i) 0 ≡ v
-    go true e = a i (ltb-true i 4 e)
-    go false e =
-        let g = ltb-false i 4 e in
-        let z : f + 4 + (i - 4) ≡ f + i = omega (arith, g) in
-        rw z at (b (i - 4) (omega (arith, g, q)))
-
--- words whose `&` is none are none, as it is at most each of them
-four-none : (r : List ℕ) (f : ℕ) → ((i : ℕ) → get_or r i 0 ≤ none32) → none32 ≤ four_and r f → AllFrom r f 4 none32
-four-none r f s h =
-    let a : ℕ = get_or r f 0 in
-    let b : ℕ = get_or r (f + 1) 0 in
-    let c : ℕ = get_or r (f + 2) 0 in
-    let d : ℕ = get_or r (f + 3) 0 in
-    let x : none32 ≤ bit_and (bit_and a b) c = omega (arith, h, and_le_l (bit_and (bit_and a b) c) d) in
-    let y : none32 ≤ bit_and a b = omega (arith, x, and_le_l (bit_and a b) c) in
-    all-four r f none32 (omega (arith, y, and_le_l a b, s f)) (omega (arith, y, and_le_r a b, s (f + 1)))
-    (omega (arith, x, and_le_r (bit_and a b) c, s (f + 2))) (omega (arith, h, and_le_r (bit_and (bit_and a b) c) d, s (f + 3)))
-
-pub eight-none : (r : List ℕ) (f x y : ℕ) → ((i : ℕ) → get_or r i 0 ≤ none32) → x ≡ four_and r f → y ≡ four_and r (f + 4) → bit_and x y ≡ none32 → AllFrom r f 8 none32
-eight-none r f x y s ex ey e =
-    all-eight r f none32 (four-none r f s (omega (arith, ex, e, and_le_l x y))) (four-none r (f + 4) s (omega (arith, ey, e, and_le_r x y)))
-
--- words whose `|` is 0 are 0
-two-zero : (a b : ℕ) → bit_or a b ≡ 0 → (a ≡ 0) × (b ≡ 0)
-two-zero a b e = (omega (arith, e, or_add_and a b, and_le_r a b), omega (arith, e, or_add_and a b, and_le_l a b))
-
-four-zero : (r : List ℕ) (f : ℕ) → four_or r f ≡ 0 → AllFrom r f 4 0
-four-zero r f e =
-    let x = two-zero _ _ e in
-    let y = two-zero _ _ x.0 in
-    let z = two-zero _ _ y.0 in
-    all-four r f 0 z.0 z.1 y.1 x.1
-
-pub eight-zero : (r : List ℕ) (f x y : ℕ) → x ≡ four_or r f → y ≡ four_or r (f + 4) → bit_or x y ≡ 0 → AllFrom r f 8 0
-eight-zero r f x y ex ey e =
-    let t = two-zero x y e in
-    all-eight r f 0 (four-zero r f (sym ex ∙ t.0)) (four-zero r (f + 4) (sym ey ∙ t.1))
 
 -- ---- a run of empty lists: none yet, one more, one run after the other
 pub skipped-none : (r : List ℕ) (i : ℕ) → i ≤ 200 → Skipped r i i

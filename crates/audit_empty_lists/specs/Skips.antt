@@ -1,17 +1,9 @@
 -- What the skipping of empty lists speaks of: words of the record in a row, an empty list, a run of them. Definitions only.
 use Rattle.std.specs.Prelude.{◌≡◌, List, true, ℕ, ◌+◌, ◌≤◌, ◌<◌, get_or}
-use Rattle.std.specs.Int.Bits.{bit_and, bit_or}
 use Rattle.sizes.specs.Limits.{none64}
 use Rattle.machine.specs.View.{up, kind_at, head_word}
 use Rattle.machine.specs.Audit.{may_end}
 use Rattle.machine.specs.declared.ListKind.{ListKind}
-
--- the bits that are set in all of the four words from f on, and those that are set in any of them
-abbrev pub four_and : List ℕ → ℕ → ℕ
-four_and r f = bit_and (bit_and (bit_and (get_or r f 0) (get_or r (f + 1) 0)) (get_or r (f + 2) 0)) (get_or r (f + 3) 0)
-
-abbrev pub four_or : List ℕ → ℕ → ℕ
-four_or r f = bit_or (bit_or (bit_or (get_or r f 0) (get_or r (f + 1) 0)) (get_or r (f + 2) 0)) (get_or r (f + 3) 0)
 
 -- n words of the record from f on are v
 abbrev pub AllFrom : List ℕ → ℕ → ℕ → ℕ → Type 0

@@ -2,8 +2,7 @@
 #![tactic(auto)]
 
 ghost use Rattle.std.specs.Prelude.{◌≡◌, true, ◌+◌, ◌≤◌, length};
-ghost use Rattle.sizes.specs.Limits.{none32};
-ghost use Rattle.audit_empty_lists.specs.Skips.{four_and, four_or, AllFrom, Skipped};
+ghost use Rattle.audit_empty_lists.specs.Skips.{AllFrom, Skipped};
 
 use sizes::{
     BEFORE_BINS, BINS_FROM, CACHE_COUNTS, CACHE_HEADS, FAST_FROM, FAST_HEADS, LAST_BIN, NONE32,
@@ -15,35 +14,18 @@ const LAST_BINS: usize = 124;
 
 const LAST_CACHES: u32 = 57;
 
-// The bits that are set in all of four words, and those that are set in any of them.
-fn four_and(r: &[u32], f: usize) -> u32
-    requires { f + 4 ≤ length r.now }
-    ensures { result ≡ four_and r.now f }
-{
-    r[f] & r[f + 1] & r[f + 2] & r[f + 3]
-}
-
-fn four_or(r: &[u32], f: usize) -> u32
-    requires { f + 4 ≤ length r.now }
-    ensures { result ≡ four_or r.now f }
-{
-    r[f] | r[f + 1] | r[f + 2] | r[f + 3]
-}
-
-// Whether the eight words from f on are all none, which has every bit set.
-fn eight_none(r: &[u32], f: usize) -> bool
+// Whether the eight words from f on are all v.
+// Kept: no `==` of slices and no `all`, which stop at the first word that differs: by them an audit's empty lists take up to five times the instructions, where
+// here the compiler compares four words at once.
+fn eight_are(r: &[u32], f: usize, v: u32) -> bool
     requires { f + 8 ≤ length r.now }
-    ensures { result ≡ true → AllFrom r.now f 8 none32 }
+    ensures { result ≡ true → AllFrom r.now f 8 v }
 {
-    four_and(r, f) & four_and(r, f + 4) == NONE32
-}
-
-// Whether they are all 0.
-fn eight_zero(r: &[u32], f: usize) -> bool
-    requires { f + 8 ≤ length r.now }
-    ensures { result ≡ true → AllFrom r.now f 8 0 }
-{
-    four_or(r, f) | four_or(r, f + 4) == 0
+    let mut differ = 0;
+    for w in &r[f..f + 8] {
+        differ |= *w ^ v;
+    }
+    differ == 0
 }
 
 // The first list from number i on that is not empty, or ALL_LISTS, where i is a bin's. Four at a time, whose words stand in a row, while there are four.
@@ -52,8 +34,9 @@ fn skip_bins(r: &[u32], i: u32) -> u32
     ensures { Skipped r.now i result }
 {
     let mut b = bin_of_list(i);
+    // Kept: a `while`, since the search by one goes on from where this one ends, which a `for` over `step_by` does not tell.
     while b < LAST_BINS {
-        if !eight_none(r, bin_first(b)) {
+        if !eight_are(r, bin_first(b), NONE32) {
             break;
         }
         b += 4;
@@ -66,19 +49,12 @@ fn skip_one_by_one(r: &[u32], i: usize) -> usize
     requires { (length r.now ≡ 396) × (1 ≤ i) × (i ≤ 127) }
     ensures { Skipped r.now (i + 73) (result + 73) }
 {
-    let mut b = i;
-    while b <= LAST_BIN {
-        let first = bin_first(b);
-        if r[first] != NONE32 {
+    for b in i..=LAST_BIN {
+        if r[bin_first(b)] != NONE32 || r[bin_last(b)] != NONE32 {
             return b;
         }
-        let last = bin_last(b);
-        if r[last] != NONE32 {
-            return b;
-        }
-        b += 1;
     }
-    b
+    LAST_BIN + 1
 }
 
 // The same where i is a fast list's or a bin's.
@@ -86,14 +62,12 @@ fn skip_fast(r: &[u32], i: u32) -> u32
     requires { (length r.now ≡ 396) × (64 ≤ i) × (i ≤ 200) }
     ensures { Skipped r.now i result }
 {
-    let mut j = i;
-    while j < BINS_FROM {
+    for j in i..BINS_FROM {
         if r[FAST_HEADS + ((j - FAST_FROM) as usize)] != NONE32 {
             return j;
         }
-        j += 1;
     }
-    skip_bins(r, j)
+    skip_bins(r, i.max(BINS_FROM))
 }
 
 // The same; the first eight fast lists, whose words stand in a row, at once.
@@ -101,10 +75,8 @@ fn skip_eight_fast(r: &[u32], i: u32) -> u32
     requires { (length r.now ≡ 396) × (64 ≤ i) × (i ≤ 200) }
     ensures { Skipped r.now i result }
 {
-    if i == FAST_FROM {
-        if eight_none(r, FAST_HEADS) {
-            return skip_fast(r, i + 8);
-        }
+    if i == FAST_FROM && eight_are(r, FAST_HEADS, NONE32) {
+        return skip_fast(r, i + 8);
     }
     skip_fast(r, i)
 }
@@ -114,17 +86,12 @@ fn skip_caches(r: &[u32], i: u32) -> u32
     requires { (length r.now ≡ 396) × (i ≤ 200) }
     ensures { Skipped r.now i result }
 {
-    let mut j = i;
-    while j < FAST_FROM {
-        if r[CACHE_HEADS + (j as usize)] != NONE32 {
+    for j in i..FAST_FROM {
+        if r[CACHE_HEADS + (j as usize)] != NONE32 || r[CACHE_COUNTS + (j as usize)] != 0 {
             return j;
         }
-        if r[CACHE_COUNTS + (j as usize)] != 0 {
-            return j;
-        }
-        j += 1;
     }
-    skip_eight_fast(r, j)
+    skip_eight_fast(r, i.max(FAST_FROM))
 }
 
 // The first list from number i on that is not empty, or ALL_LISTS. From a bin on there are bins alone; before, eight cache lists at a time, while there are
@@ -137,11 +104,11 @@ pub fn skip(r: &[u32], i: u32) -> u32
         return skip_bins(r, i);
     }
     let mut j = i;
+    // Kept: a `while`, for the same reason as in `skip_bins`.
     while j < LAST_CACHES {
-        if !eight_none(r, CACHE_HEADS + (j as usize)) {
-            break;
-        }
-        if !eight_zero(r, CACHE_COUNTS + (j as usize)) {
+        if !eight_are(r, CACHE_HEADS + (j as usize), NONE32)
+            || !eight_are(r, CACHE_COUNTS + (j as usize), 0)
+        {
             break;
         }
         j += 8;

@@ -10,32 +10,24 @@ use sizes::Chunk;
 // The first version that asks.
 const KEYED_FROM: u32 = 2;
 
-// Whether each is asked, and the key that it must then have.
-#[derive(Clone, Copy)]
-pub struct Asked {
-    pub keyed: bool,
-    pub key: u64,
-}
-
-// By version v of the rules, of a heap with the record r.
-pub fn asked_by(r: &[u32], v: u32) -> Asked
+// The key that each must have, by version v of the rules, of a heap with the record r; none: it is not asked.
+pub fn asked_by(r: &[u32], v: u32) -> Option<u64>
     requires { length r.now ≡ 396 }
-    ensures { Asks v r.now result.keyed result.key }
+    ensures { Asks v r.now result }
 {
-    Asked {
-        keyed: KEYED_FROM <= v,
-        key: key_in(r),
+    if v < KEYED_FROM {
+        return None;
     }
+    Some(key_in(r))
 }
 
-// Whether the cached chunk c has the key that x asks for, if it asks.
-pub fn key_ok(a: &[u8], x: Asked, c: Chunk) -> bool
+// Whether the cached chunk c has the key that is asked for, if one is.
+pub fn key_ok(a: &[u8], asked: Option<u64>, c: Chunk) -> bool
     requires { (c.0 % 8 ≡ 0) × (c.0 + 32 ≤ length a.now) }
-    ensures { (v : ℕ) (r : List ℕ) → Asks v r x.keyed x.key → result ≡ key_ok v (arena_words a.now) r c.0 }
+    ensures { (v : ℕ) (r : List ℕ) → Asks v r asked → result ≡ key_ok v (arena_words a.now) r c.0 }
 {
-    if !x.keyed {
-        return true;
+    match asked {
+        Some(key) => key_at(a, c) == key,
+        None => true,
     }
-    let q = key_at(a, c);
-    q == x.key
 }

@@ -13,7 +13,7 @@ ghost use Rattle.machine.specs.View.{up, kind_at, head_word, links_by};
 ghost use Rattle.machine.specs.Audit.{may_end};
 ghost use Rattle.audit_lists.specs.Listed.{unmet, mark_of, tail_word};
 
-pub use asks::{Asked, asked_by};
+pub use asks::asked_by;
 use audit_walks::{BINNED, STACKED, UNMET};
 use chunk_fields::{Link, link_of};
 use machine::ListKind;

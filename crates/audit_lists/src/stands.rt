@@ -6,7 +6,7 @@ ghost use Rattle.audit_lists.specs.Asks.{Asks};
 ghost use Rattle.audit_lists.specs.Owns.{own_size, Owns};
 ghost use Rattle.audit_lists.specs.Stand.{Stand};
 
-use crate::asks::{Asked, key_ok};
+use crate::asks::key_ok;
 use crate::owns::Owned;
 use chunk_fields::{Link, back_at};
 use machine::ListKind;
@@ -29,13 +29,13 @@ fn bin_may_stand(a: &[u8], j: u32, c: Chunk, s: u64, p: Link, q: u64) -> bool
     s <= q
 }
 
-// Whether the chunk c of size s may stand in a list of this kind, which owns the sizes o and, if it is a cache list, asks for the key as x says, after the
-// chunk p of size q (p none: first) and n chunks in all.
+// Whether the chunk c of size s may stand in a list of this kind, which owns the sizes o, after the chunk p of size q (p none: first) and n chunks in all. A
+// cached one must have the key that is asked for, if one is.
 pub fn may_stand(
     a: &[u8],
     k: ListKind,
     o: Owned,
-    x: Asked,
+    asked: Option<u64>,
     c: Chunk,
     s: u64,
     p: Link,
@@ -43,7 +43,7 @@ pub fn may_stand(
     n: u32,
 ) -> bool
     requires { Stand a.now c.0 s p.0 q × Owns k o.least o.most }
-    ensures { (v : ℕ) (r : List ℕ) → Asks v r x.keyed x.key → result ≡ may_stand v k (arena_words a.now) r p.0 n c.0 }
+    ensures { (v : ℕ) (r : List ℕ) → Asks v r asked → result ≡ may_stand v k (arena_words a.now) r p.0 n c.0 }
 {
     if s < o.least {
         return false;
@@ -52,7 +52,7 @@ pub fn may_stand(
         return false;
     }
     match k {
-        ListKind::Cache(_) => n < sizes::CACHE_ROOM && key_ok(a, x, c),
+        ListKind::Cache(_) => n < sizes::CACHE_ROOM && key_ok(a, asked, c),
         ListKind::Fast(_) => true,
         ListKind::Bin(j) => bin_may_stand(a, j, c, s, p, q),
     }

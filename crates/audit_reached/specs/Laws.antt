@@ -1,6 +1,6 @@
 -- What follows of the lists that are reached: a list that the audit finds good is reached whole, and so are all on a heap whose lists are sound; no chunk is
 -- reached twice. By induction on the chunks and the lists. Assumes nothing.
-use Rattle.std.specs.Prelude.{◌≡◌, refl, List, [], ◌∷◌, Bool, true, false, ℕ, suc, ◌+◌, ◌≤◌}
+use Rattle.std.specs.Prelude.{◌≡◌, refl, List, [], ◌∷◌, Bool, true, false, ℕ, suc, ◌+◌, ◌≤◌, Ok, Err}
 use Rattle.std.proofs.Common.{ap, ◌∙◌, arith, ltb-true}
 use Rattle.sizes.specs.Limits.{none64}
 use Rattle.machine.specs.Lists.{both, cnt, cnt_all, has?, without, minus}
@@ -8,7 +8,7 @@ use Rattle.machine.specs.Count.{without-cnt}
 use Rattle.machine.specs.View.{kind_at, tiles_of, view}
 use Rattle.machine.specs.Audit.{may_stand, good_from, skips_ok, list_fault, lists}
 use Rattle.machine.specs.declared.ListKind.{ListKind}
-use Rattle.machine.specs.declared.Audited.TheVariants as A
+use Rattle.machine.specs.declared.Fault.TheVariants as A
 use Rattle.sound.specs.Release.{both_true}
 use Rattle.sound.specs.Tiles.{starts-once}
 use Rattle.audit_walks.specs.Tests.{sound-if}
@@ -39,16 +39,16 @@ good-whole v k w r left p n (c ∷ l) e =
     let t = both_true (both (has? c left) (may_stand v k w r p n c)) _ e in
     good_more v k w r left p n c l t.0 ∙ ap (λ (z : List ℕ). c ∷ z) (good-whole v k w r (without c left) c (suc n) l t.1)
 
-sound-from : (v : ℕ) (w r : List ℕ) (i : ℕ) (left : List ℕ) (ls : List (List ℕ)) → list_fault v w r i left ls ≡ A.Sound → reached_from v w r i left ls ≡ ls
+sound-from : (v : ℕ) (w r : List ℕ) (i : ℕ) (left : List ℕ) (ls : List (List ℕ)) → list_fault v w r i left ls ≡ Ok tt → reached_from v w r i left ls ≡ ls
 unfolding list_fault reached_from
 sound-from v w r i left [] e = refl
 sound-from v w r i left (l ∷ ls) e =
-    let s = sound-if (both (good_from v (kind_at i) w r left none64 0 l) (skips_ok v (kind_at i) w l)) _ (A.List (kind_at i)) refl e in
+    let s = sound-if (both (good_from v (kind_at i) w r left none64 0 l) (skips_ok v (kind_at i) w l)) _ (Err (A.List (kind_at i))) refl e in
     let g = (both_true (good_from v (kind_at i) w r left none64 0 l) (skips_ok v (kind_at i) w l) s.0).0 in
     ap (λ (g : List ℕ). g ∷ reached_from v w r (suc i) (minus left g) ls) (good-whole v (kind_at i) w r left none64 0 l g)
     ∙ ap (λ (gs : List (List ℕ)). l ∷ gs) (sound-from v w r (suc i) (minus left l) ls s.1)
 
-pub sound-reached : (v : ℕ) (w r : List ℕ) → list_fault v w r 0 (starts_of w) (lists_of w r) ≡ A.Sound → reached_of v w r ≡ lists_of w r
+pub sound-reached : (v : ℕ) (w r : List ℕ) → list_fault v w r 0 (starts_of w) (lists_of w r) ≡ Ok tt → reached_of v w r ≡ lists_of w r
 unfolding reached_of
 sound-reached v w r e = ap (reached_from v w r 0 (starts_of w)) (view-lists w r) ∙ sound-from v w r 0 (starts_of w) (lists_of w r) e
 

@@ -1,23 +1,23 @@
 -- Each list up to its first bad chunk, in the audit's order and by its rules of version v: no chunk, the top, one that was met before, one that may not stand
 -- there. A wrong count, last or skip link condemns no chunk. Definitions only.
-use Rattle.std.specs.Prelude.{◌≡◌, List, [], ◌∷◌, Bool, true, false, ℕ, suc, ◌+◌, ◌/◌, ◌≤◌, ltb, get_or}
+use Rattle.std.specs.Prelude.{◌≡◌, List, [], ◌∷◌, Bool, true, false, ℕ, suc, ◌+◌, ◌/◌, ◌≤◌, ltb, get_or, Ok, Err}
 use Rattle.sizes.specs.Limits.{none64}
 use Rattle.machine.specs.Lists.{both, cnt, has?, without, minus}
 use Rattle.machine.specs.Heap.{starts, bin_from}
 use Rattle.machine.specs.View.{kind_at, view}
-use Rattle.machine.specs.Audit.{may_stand, lists}
-use Rattle.machine.specs.declared.{ListKind.ListKind, Audited.Audited}
-use Rattle.machine.specs.declared.Audited.TheVariants as A
+use Rattle.machine.specs.Audit.{may_stand, lists, Audited}
+use Rattle.machine.specs.declared.{ListKind.ListKind}
+use Rattle.machine.specs.declared.Fault.TheVariants as A
 use Rattle.audit_walks.specs.Marks.{unmet_mark, starts_of}
 
 -- there are tiles, and lists to walk, unless the audit finds a fault of the record or of a tile
 abbrev pub tiled? : Audited → Bool
-tiled? A.Sound = true
-tiled? A.Record = false
-tiled? (A.Tile o) = false
-tiled? (A.List k) = true
-tiled? (A.Flag o) = true
-tiled? A.Shape = false
+tiled? (Ok u) = true
+tiled? (Err A.Record) = false
+tiled? (Err (A.Tile o)) = false
+tiled? (Err (A.List k)) = true
+tiled? (Err (A.Flag o)) = true
+tiled? (Err A.Shape) = false
 
 -- the chunks of a list before its first bad one, as good_from tests them. left: the chunks, the top not among them, that were not met before
 unfoldable pub good_part : ℕ → ListKind → List ℕ → List ℕ → List ℕ → ℕ → ℕ → List ℕ → List ℕ

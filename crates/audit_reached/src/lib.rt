@@ -11,36 +11,29 @@ ghost use Rattle.audit_reached.specs.ReachTurn.{Before};
 ghost use Rattle.audit_reached.specs.Reached.{tiled?, ReachedBy};
 
 use chunk_fields::{Link, edition_in, size_at, stack_link_at};
-use machine::Audited;
+use machine::Fault;
 use sizes::{ALL_LISTS, Chunk, NONE64};
 
 // The mark of a chunk that list 0 reaches; list i's is i more. One that none reaches keeps the mark of the tile walk.
 pub const FIRST_MARK: u8 = 2;
 
 // The audit's answer x leaves tiles, and lists to walk.
-pub fn tiled(x: Audited) -> bool
+pub fn tiled(x: Result<(), Fault>) -> bool
     ensures { result ≡ tiled? x }
 {
-    match x {
-        Audited::Sound => true,
-        Audited::Record => false,
-        Audited::Tile(_) => false,
-        Audited::List(_) => true,
-        Audited::Flag(_) => true,
-        Audited::Shape => false,
-    }
+    matches!(x, Ok(()) | Err(Fault::List(_) | Fault::Flag(_)))
 }
 
-// Marks the chunks that list i reaches by version v of the rules with its mark, u. x: the key that cached chunks are asked for; o: the sizes that the list
-// owns; d: how its links are stored; c: the chunk at hand; p, q: the one before it and its size; n: how many came before. No link is held against none before
-// it is unmixed.
+// Marks the chunks that list i reaches by version v of the rules with its mark, u. asked: the key that cached chunks must have, if any; o: the sizes that the
+// list owns; d: how its links are stored; c: the chunk at hand; p, q: the one before it and its size; n: how many came before. No link is held against none
+// before it is unmixed.
 fn reach_list(a: &[u8], r: &[u32], m: &mut [u8], i: u32, v: u32)
     requires { Bytes a.now m.old × (length r.now ≡ 396) × (i < 200) × Before v (arena_words a.now) r.now m.old i }
     ensures { Before v (arena_words a.now) r.now m.new (i + 1) }
 {
     let k = audit_lists::kind_at(i);
     let u = FIRST_MARK + (i as u8);
-    let x = audit_lists::asked_by(r, v);
+    let asked = audit_lists::asked_by(r, v);
     let o = audit_lists::owned_by(k);
     let edition = edition_in(r);
     let d = audit_lists::links_by(k, edition);
@@ -54,7 +47,7 @@ fn reach_list(a: &[u8], r: &[u32], m: &mut [u8], i: u32, v: u32)
         }
         let at = Chunk(c.0);
         let s = size_at(a, at);
-        if !audit_lists::may_stand(a, k, o, x, at, s, p, q, n) {
+        if !audit_lists::may_stand(a, k, o, asked, at, s, p, q, n) {
             break;
         }
         m[(at.0 / 16) as usize] = u;
@@ -79,11 +72,9 @@ pub fn reach(a: &[u8], r: &[u32], m: &mut [u8], v: u32)
     requires { Bytes a.now m.old × (length r.now ≡ 396) × Started (arena_words a.now) m.old }
     ensures { ReachedBy v (arena_words a.now) r.now m.new }
 {
-    let mut i: u32 = 0;
-    while i < ALL_LISTS {
+    for i in 0..ALL_LISTS {
         if !is_empty(r, i) {
             reach_list(a, r, m, i, v);
         }
-        i += 1;
     }
 }

@@ -1,5 +1,5 @@
 -- The turns of the flag loop, and its ways out: the fault from the tile at hand on is the whole's, for whatever bins the marks tell of. Assumes nothing.
-use Rattle.std.specs.Prelude.{◌≡◌, refl, List, [], ◌∷◌, Bool, true, false, ℕ, ◌+◌, ◌*◌, ◌%◌, ◌≤◌, ◌<◌, eqb, length, get_or}
+use Rattle.std.specs.Prelude.{◌≡◌, refl, List, [], ◌∷◌, Bool, true, false, ℕ, ◌+◌, ◌*◌, ◌%◌, ◌≤◌, ◌<◌, eqb, length, get_or, Ok, Err}
 use Rattle.std.proofs.Common.{sym, ap, ◌∙◌, subst, arith}
 use Rattle.sizes.specs.Layout.{prev_word, size_word}
 use Rattle.machine.specs.Lists.{both, cnt}
@@ -7,7 +7,7 @@ use Rattle.machine.specs.Count.{cnt-here, cnt-there}
 use Rattle.machine.specs.Heap.{Tile, tile, starts_from, end_from}
 use Rattle.machine.specs.View.{size_at, low_at, tile_at, tiles_of}
 use Rattle.machine.specs.Audit.{flag_ok, flag_fault}
-use Rattle.machine.specs.declared.Audited.TheVariants as A
+use Rattle.machine.specs.declared.Fault.TheVariants as A
 use Rattle.sound.specs.Tiles.{end-le}
 use Rattle.audit_walks.specs.Tiles.{TilesOk, tiles-later, tile-read}
 use Rattle.audit_walks.specs.Marks.{Flagging, FlagsDone, Tells, bin_at, starts_of}
@@ -30,7 +30,7 @@ flags-enter w m top k = record { ts = tiles_of w; even = refl; tiles = k.tiles; 
 pub flags-low : (w m : List ℕ) (top o q s : ℕ) → FlagIn w m top o q s → (o ≤ top) × (top + 32 ≤ 8 * length w)
 flags-low w m top o q s i = (omega (arith, end-le o i.ts, i.at_top), omega (arith, i.tiles.top, i.tiles.least, i.at_top))
 
-fault-bad : (b : ℕ → ℕ) (u : Tile) (o q s : ℕ) (t : Tile) (ts : List Tile) → flag_ok t q s (b o) ≡ false → flag_fault b u o q s (t ∷ ts) ≡ A.Flag o
+fault-bad : (b : ℕ → ℕ) (u : Tile) (o q s : ℕ) (t : Tile) (ts : List Tile) → flag_ok t q s (b o) ≡ false → flag_fault b u o q s (t ∷ ts) ≡ Err (A.Flag o)
 unfolding flag_fault
 fault-bad b u o q s t ts e = rw (e, flag_fault)
 
@@ -39,17 +39,17 @@ fault-more : (b : ℕ → ℕ) (u : Tile) (o q s : ℕ) (t : Tile) (ts : List Ti
 unfolding flag_fault
 fault-more b u o q s t ts e = rw (e, flag_fault)
 
-fault-last : (b : ℕ → ℕ) (u : Tile) (o q s : ℕ) (z : Bool) → flag_ok u q s 1 ≡ z → flag_fault b u o q s [] ≡ elim z [ true ↦ A.Sound | false ↦ A.Flag o ]
+fault-last : (b : ℕ → ℕ) (u : Tile) (o q s : ℕ) (z : Bool) → flag_ok u q s 1 ≡ z → flag_fault b u o q s [] ≡ elim z [ true ↦ Ok tt | false ↦ Err (A.Flag o) ]
 unfolding flag_fault
 fault-last b u o q s z e = rw (e, flag_fault)
 
 -- ---- a tile before the top
 module _ (w m : List ℕ) (top o q s : ℕ) (i : FlagIn w m top o q s) (lt : o < top) where
-  pub flag-bad : (v : Bool) → v ≡ flag_ok (tile_at w o) q s (bin_at m o) → v ≡ false → FlagsDone w m (A.Flag o)
+  pub flag-bad : (v : Bool) → v ≡ flag_ok (tile_at w o) q s (bin_at m o) → v ≡ false → FlagsDone w m (Err (A.Flag o))
   flag-bad v e z = λ b h. go i.ts i.tiles i.at_top i.sub b h (i.same b h)
     where
       go : (ts : List Tile) → TilesOk w o ts → end_from o ts ≡ top → ((x : ℕ) → 1 ≤ cnt x (starts_from o ts) → 1 ≤ cnt x (starts_of w))
-          → (b : ℕ → ℕ) → Tells w m b → flag_fault b (top_tile w) o q s ts ≡ flag_fault b (top_tile w) 0 0 0 (tiles_of w) → A.Flag o ≡ flag_fault b (top_tile w) 0 0 0 (tiles_of w)
+          → (b : ℕ → ℕ) → Tells w m b → flag_fault b (top_tile w) o q s ts ≡ flag_fault b (top_tile w) 0 0 0 (tiles_of w) → Err (A.Flag o) ≡ flag_fault b (top_tile w) 0 0 0 (tiles_of w)
       go [] k a u b h c = absurd (omega arith)
       go (t ∷ ts) k a u b h c =
           let g : b o ≡ bin_at m o = h o (u o (cnt-here o (starts_from (o + t.size) ts))) in
@@ -86,14 +86,14 @@ module _ (w m : List ℕ) (top o q s : ℕ) (i : FlagIn w m top o q s) (lt : o <
 
 -- ---- the top
 pub flag-last : (w m : List ℕ) (top o q s : ℕ) → Flagging w top → FlagIn w m top o q s → top ≤ o → (v : Bool) → v ≡ flag_ok (tile_at w top) q s 1 → (z : Bool) → v ≡ z
-    → FlagsDone w m (elim z [ true ↦ A.Sound | false ↦ A.Flag top ])
+    → FlagsDone w m (elim z [ true ↦ Ok tt | false ↦ Err (A.Flag top) ])
 flag-last w m top o q s fl i le v e z vz = λ b h. go i.ts i.tiles i.at_top b (i.same b h)
   where
     go : (ts : List Tile) → TilesOk w o ts → end_from o ts ≡ top → (b : ℕ → ℕ) → flag_fault b (top_tile w) o q s ts ≡ flag_fault b (top_tile w) 0 0 0 (tiles_of w)
-        → elim z [ true ↦ A.Sound | false ↦ A.Flag top ] ≡ flag_fault b (top_tile w) 0 0 0 (tiles_of w)
+        → elim z [ true ↦ Ok tt | false ↦ Err (A.Flag top) ] ≡ flag_fault b (top_tile w) 0 0 0 (tiles_of w)
     go [] k a b c =
         let p : top_tile w ≡ tile_at w top = ap (tile_at w) (sym fl.at_top) in
-        sym (subst (λ (y : ℕ). flag_fault b (top_tile w) y q s [] ≡ elim z [ true ↦ A.Sound | false ↦ A.Flag y ]) a
+        sym (subst (λ (y : ℕ). flag_fault b (top_tile w) y q s [] ≡ elim z [ true ↦ Ok tt | false ↦ Err (A.Flag y) ]) a
         (fault-last b (top_tile w) o q s z (ap (λ (t : Tile). flag_ok t q s 1) p ∙ sym e ∙ vz)))
         ∙ ap (λ (y : ℕ). flag_fault b (top_tile w) y q s []) (sym a) ∙ c
     go (t ∷ ts) k a b c = absurd (omega (arith, end-le (o + t.size) ts, k.sizes.1))

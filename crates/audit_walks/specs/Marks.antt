@@ -1,11 +1,9 @@
 -- The audit's marks, one for each 16 bytes of arena: what the code leaves in them, and what each walk over the tiles promises. Definitions only.
-use Rattle.std.specs.Prelude.{◌≡◌, List, ℕ, ◌+◌, ◌*◌, ◌/◌, ◌%◌, ◌≤◌, ◌<◌, eqb, length, get_or}
+use Rattle.std.specs.Prelude.{◌≡◌, List, ℕ, ◌+◌, ◌*◌, ◌/◌, ◌%◌, ◌≤◌, ◌<◌, eqb, length, get_or, Ok}
 use Rattle.machine.specs.Lists.{cnt, ind}
 use Rattle.machine.specs.Heap.{starts_from, end_from}
 use Rattle.machine.specs.View.{tile_at, tiles_of}
-use Rattle.machine.specs.Audit.{tile_fault, flag_fault}
-use Rattle.machine.specs.declared.Audited.{Audited}
-use Rattle.machine.specs.declared.Audited.TheVariants as A
+use Rattle.machine.specs.Audit.{tile_fault, flag_fault, Audited}
 use Rattle.audit_walks.specs.Tiles.{TilesOk}
 
 -- no chunk starts here, or the top does; a chunk that no list had yet; one that a stack has; one that a bin has
@@ -58,7 +56,7 @@ pub record Started (w m : List ℕ) : Type 0 where
 
 pub record TilesDone (w : List ℕ) (top : ℕ) (f : Audited) (m : List ℕ) : Type 0 where
   pub is : f ≡ tile_fault w top 0 (tiles_of w)
-  pub marks : f ≡ A.Sound → Started w m
+  pub marks : f ≡ Ok tt → Started w m
 
 -- what the flags need: the tiles are good, and end at the top
 pub record Flagging (w : List ℕ) (top : ℕ) : Type 0 where

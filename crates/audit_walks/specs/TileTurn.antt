@@ -1,5 +1,5 @@
 -- The turns of the tile loop, and its ways out: the fault from the tile at hand on is the whole's, and the marks are the starts passed. Assumes nothing.
-use Rattle.std.specs.Prelude.{◌≡◌, refl, List, [], ◌∷◌, Bool, true, false, ℕ, zero, suc, ◌+◌, ◌*◌, ◌/◌, ◌%◌, ◌≤◌, ◌<◌, eqb, ltb, leb, length, get_or, set}
+use Rattle.std.specs.Prelude.{◌≡◌, refl, List, [], ◌∷◌, Bool, true, false, ℕ, zero, suc, ◌+◌, ◌*◌, ◌/◌, ◌%◌, ◌≤◌, ◌<◌, eqb, ltb, leb, length, get_or, set, Ok, Err}
 use Rattle.std.proofs.Common.{sym, ap, ◌∙◌, ⊎_elim, arith, get_or-set_same, get_or-set_other, leb-true, eq-eqb, ne_eqb, lt-ltb, le-ltb}
 use Rattle.le.specs.Arena.{arena_words}
 use Rattle.le.specs.ArenaLaws.{length-arena_words}
@@ -9,7 +9,7 @@ use Rattle.machine.specs.Count.{eq?, ind-same, ind-other}
 use Rattle.machine.specs.Heap.{Tile, starts_from}
 use Rattle.machine.specs.View.{size_at, low_at, tile_at, tiles_from, tiles_of}
 use Rattle.machine.specs.Audit.{tile_ok, tile_fault}
-use Rattle.machine.specs.declared.Audited.TheVariants as A
+use Rattle.machine.specs.declared.Fault.TheVariants as A
 use Rattle.sound.specs.Tiles.{Start, start, starts-once}
 use Rattle.audit_walks.specs.TileWord.{word_ok}
 use Rattle.sound.specs.Release.{both_true}
@@ -39,7 +39,7 @@ none : (f : ℕ) (w : List ℕ) (o : ℕ) → 8 * length w ≤ o + size_at w o �
 none zero w o l = refl
 none (suc f) w o l = rw (le-ltb (o + size_at w o) (8 * length w) l, tiles_from)
 
-fault-bad : (w : List ℕ) (top o : ℕ) (ts : List Tile) → tile_ok w o ≡ false → tile_fault w top o ts ≡ A.Tile o
+fault-bad : (w : List ℕ) (top o : ℕ) (ts : List Tile) → tile_ok w o ≡ false → tile_fault w top o ts ≡ Err (A.Tile o)
 unfolding tile_fault
 fault-bad w top o [] e = rw (e, tile_fault)
 fault-bad w top o (t ∷ ts) e = rw (e, tile_fault)
@@ -49,7 +49,7 @@ unfolding tile_fault
 fault-more w top o ts e = rw (e, tile_fault)
 
 fault-last : (w : List ℕ) (top o : ℕ) (z : Bool) → tile_ok w o ≡ true → both (eqb (o + size_at w o) (8 * length w)) (eqb top o) ≡ z
-    → tile_fault w top o [] ≡ elim z [ true ↦ A.Sound | false ↦ A.Tile o ]
+    → tile_fault w top o [] ≡ elim z [ true ↦ Ok tt | false ↦ Err (A.Tile o) ]
 unfolding tile_fault
 fault-last w top o z e k = rw (e, tile_fault) (rw k)
 
@@ -104,27 +104,27 @@ tile-turn w m top o i ok lt inm = go i.f i.fuel i.same i.marks
         }
 
 -- ---- the ways out
-pub tile-bad : (w m m' : List ℕ) (top o : ℕ) → TileIn w m top o → tile_ok w o ≡ false → TilesDone w top (A.Tile o) m'
-tile-bad w m m' top o i e = record { is = sym (fault-bad w top o (tiles_from i.f w o) e) ∙ i.same; marks = λ z. not_sound (A.Tile o) refl z }
+pub tile-bad : (w m m' : List ℕ) (top o : ℕ) → TileIn w m top o → tile_ok w o ≡ false → TilesDone w top (Err (A.Tile o)) m'
+tile-bad w m m' top o i e = record { is = sym (fault-bad w top o (tiles_from i.f w o) e) ∙ i.same; marks = λ z. not_sound (Err (A.Tile o)) refl z }
 
 last-bad : (w m m' : List ℕ) (top o : ℕ) → TileIn w m top o → tile_ok w o ≡ true → 8 * length w ≤ o + size_at w o → both (eqb (o + size_at w o) (8 * length w)) (eqb top o) ≡ false
-    → TilesDone w top (A.Tile o) m'
+    → TilesDone w top (Err (A.Tile o)) m'
 last-bad w m m' top o i e l z = record {
   is = sym (ap (tile_fault w top o) (none i.f w o l) ∙ fault-last w top o false e z) ∙ i.same;
-  marks = λ z. not_sound (A.Tile o) refl z;
+  marks = λ z. not_sound (Err (A.Tile o)) refl z;
 }
 
-pub tile-large : (w m m' : List ℕ) (top o : ℕ) → TileIn w m top o → tile_ok w o ≡ true → 8 * length w < o + size_at w o → TilesDone w top (A.Tile o) m'
+pub tile-large : (w m m' : List ℕ) (top o : ℕ) → TileIn w m top o → tile_ok w o ≡ true → 8 * length w < o + size_at w o → TilesDone w top (Err (A.Tile o)) m'
 tile-large w m m' top o i e l = last-bad w m m' top o i e (omega arith) (rw (ne_eqb (o + size_at w o) (8 * length w) (λ z. omega arith), both))
 
-pub tile-top : (w m m' : List ℕ) (top o : ℕ) → TileIn w m top o → tile_ok w o ≡ true → o + size_at w o ≡ 8 * length w → (top ≡ o → ⊥) → TilesDone w top (A.Tile o) m'
+pub tile-top : (w m m' : List ℕ) (top o : ℕ) → TileIn w m top o → tile_ok w o ≡ true → o + size_at w o ≡ 8 * length w → (top ≡ o → ⊥) → TilesDone w top (Err (A.Tile o)) m'
 tile-top w m m' top o i e l n = last-bad w m m' top o i e (omega arith) (rw (eq-eqb (o + size_at w o) (8 * length w) l, both) (ne_eqb top o n))
 
-pub tile-sound : (w m : List ℕ) (top o : ℕ) → TileIn w m top o → tile_ok w o ≡ true → o + size_at w o ≡ 8 * length w → top ≡ o → TilesDone w top A.Sound m
+pub tile-sound : (w m : List ℕ) (top o : ℕ) → TileIn w m top o → tile_ok w o ≡ true → o + size_at w o ≡ 8 * length w → top ≡ o → TilesDone w top (Ok tt) m
 unfolding tiles_of
 tile-sound w m top o i e l z =
     let n : tiles_from i.f w o ≡ [] = none i.f w o (omega arith) in
-    let s : A.Sound ≡ tile_fault w top 0 (tiles_of w) =
+    let s : (Ok tt) ≡ tile_fault w top 0 (tiles_of w) =
     sym (ap (tile_fault w top o) n ∙ fault-last w top o true e (rw (eq-eqb (o + size_at w o) (8 * length w) l, both) (eq-eqb top o z))) ∙ i.same in
     let k : TilesOk w 0 (tiles_of w) = (tiles-sound (length w) w top 0 (sym s)).0 in
     let st : (x : ℕ) → 1 ≤ cnt x (starts_of w) → Start (tiles_of w) 0 x = λ x j. start (tiles_of w) 0 x k.sizes j in

@@ -1,6 +1,6 @@
 -- Tiles: what words say of tiles without the top, and that the audit finds no tile fault exactly then, in the tiles that are read. By induction on the tiles,
 -- one tile at a time. Assumes nothing.
-use Rattle.std.specs.Prelude.{◌≡◌, refl, List, [], ◌∷◌, ◌⊎◌, Bool, true, false, ℕ, zero, suc, ◌+◌, ◌*◌, ◌%◌, ◌≤◌, ◌<◌, eqb, ltb, leb, length, get_or}
+use Rattle.std.specs.Prelude.{◌≡◌, refl, List, [], ◌∷◌, ◌⊎◌, Bool, true, false, ℕ, zero, suc, ◌+◌, ◌*◌, ◌%◌, ◌≤◌, ◌<◌, eqb, ltb, leb, length, get_or, Ok, Err}
 use Rattle.std.proofs.Common.{sym, ap, ◌∙◌, inl, inr, ⊎_elim, le_of_suc-le-suc, not-suc-le-zero, arith, ltb-true, leb-true, eqb-true, lt-ltb, le-ltb, le-leb, eq-eqb, ne_eqb}
 use Rattle.std.proofs.lemmas.Bool.{eqb-false}
 use Rattle.sizes.specs.Layout.{prev_word, size_word}
@@ -9,7 +9,7 @@ use Rattle.machine.specs.Count.{eq?, ind-other}
 use Rattle.machine.specs.Heap.{Tile, tile, end_from, starts_from, since, hd_size}
 use Rattle.machine.specs.View.{size_at, low_at, tile_at, tiles_from}
 use Rattle.machine.specs.Audit.{tile_ok, tile_fault}
-use Rattle.machine.specs.declared.Audited.TheVariants as A
+use Rattle.machine.specs.declared.Fault.TheVariants as A
 use Rattle.sound.specs.Relation.{tiled, tiles_at}
 use Rattle.sound.specs.Tiles.{end-le, none_out, starts-length, Start, start}
 use Rattle.sound.specs.Release.{both_true}
@@ -38,10 +38,10 @@ tile-parts w o e =
     let p = both_true (ltb (low_at w o) 2) (leb 32 (size_at w o)) e in
     (le_of_suc-le-suc (ltb-true (low_at w o) 2 p.0), leb-true 32 (size_at w o) p.1)
 
-last : (w : List ℕ) (top o : ℕ) → tile_fault w top o [] ≡ A.Sound → TilesOk w o [] × (top ≡ o)
+last : (w : List ℕ) (top o : ℕ) → tile_fault w top o [] ≡ Ok tt → TilesOk w o [] × (top ≡ o)
 unfolding tile_fault
 last w top o e =
-    let s = sound-if (both (tile_ok w o) (both (eqb (o + size_at w o) (8 * length w)) (eqb top o))) A.Sound (A.Tile o) refl e in
+    let s = sound-if (both (tile_ok w o) (both (eqb (o + size_at w o) (8 * length w)) (eqb top o))) (Ok tt) (Err (A.Tile o)) refl e in
     let p = both_true (tile_ok w o) _ s.0 in
     let q = both_true (eqb (o + size_at w o) (8 * length w)) (eqb top o) p.1 in
     let t = tile-parts w o p.0 in (
@@ -56,7 +56,7 @@ read-prev w o e = rw (eq-eqb (low_at w o) 0 e, tile_at)
 read_none : (w : List ℕ) (o : ℕ) → low_at w o ≡ 1 → (tile_at w o).prev ≡ 0
 read_none w o e = rw (ne_eqb (low_at w o) 0 (λ z. omega arith), tile_at)
 
-pub tiles-sound : (f : ℕ) (w : List ℕ) (top o : ℕ) → tile_fault w top o (tiles_from f w o) ≡ A.Sound
+pub tiles-sound : (f : ℕ) (w : List ℕ) (top o : ℕ) → tile_fault w top o (tiles_from f w o) ≡ Ok tt
     → TilesOk w o (tiles_from f w o) × (top ≡ end_from o (tiles_from f w o))
 unfolding tile_fault
 tiles-sound zero w top o e = last w top o e
@@ -68,10 +68,10 @@ tiles-sound (suc f) w top o e = go (λ z. tiles-sound f w top (o + size_at w o) 
     body : Bool → List Tile
     body b = elim b [ true ↦ tile_at w o ∷ more | false ↦ [] ]
 
-    go : (tile_fault w top (o + size_at w o) more ≡ A.Sound → TilesOk w (o + size_at w o) more × (top ≡ end_from (o + size_at w o) more))
-        → (b : Bool) → tile_fault w top o (body b) ≡ A.Sound → TilesOk w o (body b) × (top ≡ end_from o (body b))
+    go : (tile_fault w top (o + size_at w o) more ≡ Ok tt → TilesOk w (o + size_at w o) more × (top ≡ end_from (o + size_at w o) more))
+        → (b : Bool) → tile_fault w top o (body b) ≡ Ok tt → TilesOk w o (body b) × (top ≡ end_from o (body b))
     go r true e =
-        let s = sound-if (tile_ok w o) (tile_fault w top (o + size_at w o) more) (A.Tile o) refl e in
+        let s = sound-if (tile_ok w o) (tile_fault w top (o + size_at w o) more) (Err (A.Tile o)) refl e in
         let t = tile-parts w o s.0 in
         let k = r s.1 in (
           record {
@@ -115,7 +115,7 @@ tiles-read (suc f) w o (t ∷ ts) b k =
     let e : tiles_from f w (o + t.size) ≡ ts = tiles-read f w (o + t.size) ts (omega (arith, k.sizes.1)) (tiles-later w o t ts k) in
     rw (lt-ltb (o + size_at w o) (8 * length w) (omega (arith, q.0, k.top, k.least)), tiles_from) (rw (tile-read w o t ts k, q.0, e))
 
-pub tiles-complete : (w : List ℕ) (o : ℕ) (ts : List Tile) → TilesOk w o ts → tile_fault w (end_from o ts) o ts ≡ A.Sound
+pub tiles-complete : (w : List ℕ) (o : ℕ) (ts : List Tile) → TilesOk w o ts → tile_fault w (end_from o ts) o ts ≡ Ok tt
 unfolding tile_fault
 tiles-complete w o [] k =
     rw (tile-ok w o k.low k.least, tile_fault) (rw (eq-eqb (o + size_at w o) (8 * length w) k.top) (rw (eq-eqb o o refl)))

@@ -8,7 +8,7 @@ ghost use Rattle.audit_walks.specs.Marks.{Bytes, Flagging, FlagsDone, binned_by}
 
 use crate::marks::{BINNED, UNMARKED};
 use chunk_fields::{note_at, size_word_at};
-use machine::Audited;
+use machine::Fault;
 use sizes::{Chunk, SizeWord};
 
 // p, prev: its P and previous size; u: the mark of the chunk before, s: its size; v: the mark of this one.
@@ -38,7 +38,7 @@ fn p_of(x: SizeWord) -> u64
 }
 
 // The first wrong flag, or sound. u: the mark of the chunk before, s: its size; the top counts as binned.
-pub fn flag_fault(a: &[u8], top: Chunk, m: &[u8]) -> Audited
+pub fn flag_fault(a: &[u8], top: Chunk, m: &[u8]) -> Result<(), Fault>
     requires { Bytes a.now m.now × Flagging (arena_words a.now) top.0 }
     ensures { FlagsDone (arena_words a.now) m.now result }
 {
@@ -50,7 +50,7 @@ pub fn flag_fault(a: &[u8], top: Chunk, m: &[u8]) -> Audited
         let x = size_word_at(a, Chunk(o as u64));
         let v = m[o / 16];
         if !flag_ok(p_of(x), note_at(a, Chunk(o as u64)), u, s, v) {
-            return Audited::Flag(o as u32);
+            return Err(Fault::Flag(o as u32));
         }
         u = v;
         s = x.size();
@@ -59,7 +59,7 @@ pub fn flag_fault(a: &[u8], top: Chunk, m: &[u8]) -> Audited
     let y = size_word_at(a, top);
     if !flag_ok(p_of(y), note_at(a, top), u, s, BINNED) {
         let at = e as u32;
-        return Audited::Flag(at);
+        return Err(Fault::Flag(at));
     }
-    Audited::Sound
+    Ok(())
 }

@@ -7,7 +7,7 @@ ghost use Rattle.audit_walks.specs.Marks.{Bytes, Clear, TilesDone};
 
 use crate::marks::UNMET;
 use chunk_fields::size_word_at;
-use machine::Audited;
+use machine::Fault;
 use sizes::{Chunk, LEAST_CHUNK, SizeWord};
 
 pub fn tile_ok(x: SizeWord) -> bool
@@ -20,7 +20,7 @@ pub fn tile_ok(x: SizeWord) -> bool
 }
 
 // The first bad tile, or sound; marks each chunk but the top as one that no list had yet.
-pub fn tile_fault(a: &[u8], top: Chunk, m: &mut [u8]) -> Audited
+pub fn tile_fault(a: &[u8], top: Chunk, m: &mut [u8]) -> Result<(), Fault>
     requires { Bytes a.now m.old × Clear m.old }
     ensures { TilesDone (arena_words a.now) top.0 result m.new }
 {
@@ -29,17 +29,17 @@ pub fn tile_fault(a: &[u8], top: Chunk, m: &mut [u8]) -> Audited
     loop {
         let x = size_word_at(a, Chunk(o as u64));
         if !tile_ok(x) {
-            return Audited::Tile(o as u32);
+            return Err(Fault::Tile(o as u32));
         }
         let s = x.size() as usize;
         if room <= s {
             if room < s {
-                return Audited::Tile(o as u32);
+                return Err(Fault::Tile(o as u32));
             }
             if top.0 != o as u64 {
-                return Audited::Tile(o as u32);
+                return Err(Fault::Tile(o as u32));
             }
-            return Audited::Sound;
+            return Ok(());
         }
         m[o / 16] = UNMET;
         o += s;

@@ -1,5 +1,5 @@
 // Grant: numbers 1, 2, 3 before the first write; then the steps; number 5 leaves what they did.
-ghost use Rattle.std.specs.Prelude.{◌≡◌};
+ghost use Rattle.std.specs.Prelude.{◌≡◌, Ok};
 ghost use Rattle.le.specs.Arena.{arena_words};
 ghost use Rattle.sizes.specs.Sizes.{usable};
 ghost use Rattle.sizes.specs.Offsets.{mem_of};
@@ -8,8 +8,8 @@ ghost use Rattle.machine.specs.Calls.{after, grant_call};
 ghost use Rattle.calls.specs.Grants.{Stands};
 
 use crate::shape::shaped;
-use machine::{Answer, Got, Refusal};
-use sizes::{Chunk, Needed};
+use machine::{Answer, Refusal};
+use sizes::Chunk;
 
 // The answer where the chunk c was found: its mem, and its usable bytes as its size word has them after the steps.
 pub fn granted_at(a: &[u8], c: Chunk) -> Answer
@@ -24,33 +24,20 @@ pub fn granted_at(a: &[u8], c: Chunk) -> Answer
     }
 }
 
-pub fn grant(arena: &mut [u8], control: &mut [u8], n: u64) -> Answer
+pub fn grant(arena: &mut [u8], control: &mut [u8], n: u64) -> Result<Answer, Refusal>
     ensures { after arena.new control.new result ≡ grant_call arena.old control.old n }
 {
     if !shaped(arena, control) {
-        return Answer::Refused(Refusal::Shape);
+        return Err(Refusal::Shape);
     }
-    let needed = sizes::need(n);
-    match needed {
-        Needed::TooLarge => {
-            return Answer::Refused(Refusal::Request);
-        }
-        Needed::Size(b) => {
-            let mut r = [0u32; 396];
-            record_words::read_words(control, &mut r);
-            let f = audit::audit_words(arena, &r);
-            if !machine::is_sound(f) {
-                return Answer::Refused(Refusal::Unsound);
-            }
-            let g = grant::grant(arena, control, &mut r, b);
-            match g {
-                Got::Nothing => {
-                    return Answer::Refused(Refusal::NoRoom);
-                }
-                Got::At(c) => {
-                    return granted_at(arena, Chunk(c as u64));
-                }
-            }
-        }
-    }
+    let Some(b) = sizes::need(n) else {
+        return Err(Refusal::Request);
+    };
+    let mut r = [0u32; 396];
+    record_words::read_words(control, &mut r);
+    audit::audit_words(arena, &r)?;
+    let Some(c) = grant::grant(arena, control, &mut r, b) else {
+        return Err(Refusal::NoRoom);
+    };
+    Ok(granted_at(arena, Chunk(c as u64)))
 }

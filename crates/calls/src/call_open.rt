@@ -16,35 +16,31 @@ fn fill(r: &mut [u32], n: u32, t: u32, key: u64, edition: u32)
 {
     r[LENGTH_WORD] = n;
     r[TOP_WORD] = t;
-    let mut k: usize = 0;
-    while k < CACHE_LISTS {
-        r[CACHE_COUNTS + k] = 0;
-        k += 1;
-    }
+    r[CACHE_COUNTS..CACHE_COUNTS + CACHE_LISTS].fill(0);
     chunk_fields::set_key_in(r, key);
     r[EDITION] = edition;
 }
 
-pub fn open(arena: &mut [u8], control: &mut [u8], key: u64, edition: u32) -> Answer
+pub fn open(arena: &mut [u8], control: &mut [u8], key: u64, edition: u32) -> Result<Answer, Refusal>
     ensures { after arena.new control.new result ≡ open_call arena.old control.old key edition }
 {
     if control.len() != RECORD_BYTES {
-        return Answer::Refused(Refusal::Shape);
+        return Err(Refusal::Shape);
     }
     let mut r = [NONE32; 396];
     let n = arena.len();
     if !allowed(n) {
         fill(&mut r, 0, NONE32, 0, 0);
         record_words::write_words(control, &r);
-        return Answer::Refused(Refusal::Shape);
+        return Err(Refusal::Shape);
     }
     if !audit::is_edition(edition) {
         fill(&mut r, 0, NONE32, 0, 0);
         record_words::write_words(control, &r);
-        return Answer::Refused(Refusal::Edition);
+        return Err(Refusal::Edition);
     }
     fill(&mut r, n as u32, 0, key, edition);
     record_words::write_words(control, &r);
     chunk_fields::set_size(arena, Chunk(0), n as u64, true);
-    Answer::Done
+    Ok(Answer::Done)
 }

@@ -1,5 +1,5 @@
 -- The ways through each call, on bytes of good shape: what holds in each of them holds of the call. Assumes nothing.
-use Rattle.std.specs.Prelude.{◌≡◌, refl, List, [], ◌∷◌, Bool, true, false, ℕ, ◌+◌, ◌-◌, ◌≤◌, ◌<◌, leb, length}
+use Rattle.std.specs.Prelude.{◌≡◌, refl, List, [], ◌∷◌, Bool, true, false, ℕ, ◌+◌, ◌-◌, ◌≤◌, ◌<◌, leb, length, Option, Some, None, Ok, Err}
 use Rattle.std.proofs.Common.{sym, ap, ◌∙◌, subst, ⊎_elim, arith, eq-eqb, ne_eqb, lt-ltb, le-ltb, le-leb, leb-true}
 use Rattle.le.specs.Number.{bytes}
 use Rattle.le.specs.Arena.{arena_words}
@@ -14,9 +14,8 @@ use Rattle.machine.specs.Grant.{grant}
 use Rattle.machine.specs.Resize.{resize}
 use Rattle.machine.specs.Audit.{sound?, audit_of, edition?}
 use Rattle.machine.specs.Calls.{After, after, left, shape?, words_of, heap_in, closed_record, open_call, granted, grant_call, done, release_call, resize_call, job_call}
-use Rattle.machine.specs.declared.{Got.Got, Got.TheVariants.At, Got.TheVariants.Nothing}
 use Rattle.machine.specs.declared.Refusal.TheVariants as R
-use Rattle.machine.specs.declared.Answer.TheVariants.{Done, Granted, Refused}
+use Rattle.machine.specs.declared.Answer.TheVariants.{Done, Granted}
 use Rattle.sound.specs.Tiles.{lt-or-le}
 use Rattle.sound.specs.Moves.{answer_of}
 use Rattle.sound.specs.Release.{both_true}
@@ -33,12 +32,12 @@ sound-or-not a r f g = go (sound? (audit_of (arena_words a) (words_of r))) f g
     go false f g = g refl
 
 -- ---- what a step comes to
-got-cases : (a : List ℕ) (s : Ran Got) (P : After → Type 0) → (answer_of s ≡ Nothing → P (left a (heap_of s) (writes s) (Refused R.NoRoom)))
-    → ((c : ℕ) → answer_of s ≡ At c → P (left a (heap_of s) (writes s) (Granted (c + 16) (usable (size_of (heap_of s) c))))) → P (granted a s)
-got-cases a (ran h ws (At c)) P f g = g c refl
-got-cases a (ran h ws Nothing) P f g = f refl
+got-cases : (a : List ℕ) (s : Ran (Option ℕ)) (P : After → Type 0) → (answer_of s ≡ None → P (left a (heap_of s) (writes s) (Err R.NoRoom)))
+    → ((c : ℕ) → answer_of s ≡ Some c → P (left a (heap_of s) (writes s) (Ok (Granted (c + 16) (usable (size_of (heap_of s) c)))))) → P (granted a s)
+got-cases a (ran h ws (Some c)) P f g = g c refl
+got-cases a (ran h ws None) P f g = f refl
 
-done-case : {A : Type 0} (a : List ℕ) (s : Ran A) (P : After → Type 0) → P (left a (heap_of s) (writes s) Done) → P (done a s)
+done-case : {A : Type 0} (a : List ℕ) (s : Ran A) (P : After → Type 0) → P (left a (heap_of s) (writes s) (Ok Done)) → P (done a s)
 done-case a (ran h ws x) P p = p
 
 both-live : (h : Heap) (m : ℕ) → 16 ≤ m → live? h (m - 16) ≡ true → both (leb 16 m) (live? h (m - 16)) ≡ true
@@ -46,15 +45,15 @@ both-live h m l e = ap (λ (t : Bool). both t (live? h (m - 16))) (le-leb 16 m l
 
 -- ---- the calls
 module _ (a r : List ℕ) (q d : ℕ) (L : Lent a r) where
-  pub open-called : edition? d ≡ true → left a (opened (length a) q d) (size 0 (length a) 1 ∷ []) Done ≡ open_call a r q d
+  pub open-called : edition? d ≡ true → left a (opened (length a) q d) (size 0 (length a) 1 ∷ []) (Ok Done) ≡ open_call a r q d
   unfolding open_call
   open-called e = rw (eq-eqb (length r) 1584 L.long, open_call) (rw (lent-shape a r L).0 (rw e))
 
-  pub open_none : edition? d ≡ false → after a (bytes 4 closed_record) (Refused R.Edition) ≡ open_call a r q d
+  pub open_none : edition? d ≡ false → after a (bytes 4 closed_record) (Err R.Edition) ≡ open_call a r q d
   unfolding open_call
   open_none e = rw (eq-eqb (length r) 1584 L.long, open_call) (rw (lent-shape a r L).0 (rw e))
 
-  pub open-cases : (P : After → Type 0) → P (left a (opened (length a) q d) (size 0 (length a) 1 ∷ []) Done) → P (after a (bytes 4 closed_record) (Refused R.Edition))
+  pub open-cases : (P : After → Type 0) → P (left a (opened (length a) q d) (size 0 (length a) 1 ∷ []) (Ok Done)) → P (after a (bytes 4 closed_record) (Err R.Edition))
       → P (open_call a r q d)
   open-cases P f g = go (edition? d) refl
     where
@@ -80,11 +79,11 @@ module _ (a r : List ℕ) (L : Lent a r) (P : After → Type 0) where
   unfolding grant_call
   grant-called n l S = request-sound a r n (λ h. granted a (grant (need n) h)) good (le-ltb most_request n l) S
 
-  pub grant-cases : (n : ℕ) → (262144 < n → P (after a r (Refused R.Request))) → (UnsoundIn a r → P (after a r (Refused R.Unsound)))
-      → (n ≤ 262144 → SoundIn a r → answer_of (grant (need n) (heap_in a r)) ≡ Nothing
-      → P (left a (heap_of (grant (need n) (heap_in a r))) (writes (grant (need n) (heap_in a r))) (Refused R.NoRoom)))
-      → (n ≤ 262144 → SoundIn a r → (c : ℕ) → answer_of (grant (need n) (heap_in a r)) ≡ At c
-      → P (left a (heap_of (grant (need n) (heap_in a r))) (writes (grant (need n) (heap_in a r))) (Granted (c + 16) (usable (size_of (heap_of (grant (need n) (heap_in a r))) c)))))
+  pub grant-cases : (n : ℕ) → (262144 < n → P (after a r (Err R.Request))) → (UnsoundIn a r → P (after a r (Err R.Unsound)))
+      → (n ≤ 262144 → SoundIn a r → answer_of (grant (need n) (heap_in a r)) ≡ None
+      → P (left a (heap_of (grant (need n) (heap_in a r))) (writes (grant (need n) (heap_in a r))) (Err R.NoRoom)))
+      → (n ≤ 262144 → SoundIn a r → (c : ℕ) → answer_of (grant (need n) (heap_in a r)) ≡ Some c
+      → P (left a (heap_of (grant (need n) (heap_in a r))) (writes (grant (need n) (heap_in a r))) (Ok (Granted (c + 16) (usable (size_of (heap_of (grant (need n) (heap_in a r))) c))))))
       → P (grant_call a r n)
   grant-cases n large unsound none at = ⊎_elim
       (λ l. subst P (grant-request a r n good (lt-ltb most_request n l)) (large l))
@@ -93,9 +92,9 @@ module _ (a r : List ℕ) (L : Lent a r) (P : After → Type 0) where
       (λ U. subst P (grant-unsound a r n good (le-ltb most_request n l) U) (unsound U)))
       (lt-or-le 262144 n)
 
-  pub release-cases : (m : ℕ) → (UnsoundIn a r → P (after a r (Refused R.Unsound))) → (SoundIn a r → m ≡ 0 → P (after a r Done))
-      → (SoundIn a r → (m ≡ 0 → ⊥) → (LiveMem a r m → ⊥) → P (after a r (Refused R.NotLive)))
-      → (SoundIn a r → LiveMem a r m → P (left a (heap_of (release (m - 16) (heap_in a r))) (writes (release (m - 16) (heap_in a r))) Done))
+  pub release-cases : (m : ℕ) → (UnsoundIn a r → P (after a r (Err R.Unsound))) → (SoundIn a r → m ≡ 0 → P (after a r (Ok Done)))
+      → (SoundIn a r → (m ≡ 0 → ⊥) → (LiveMem a r m → ⊥) → P (after a r (Err R.NotLive)))
+      → (SoundIn a r → LiveMem a r m → P (left a (heap_of (release (m - 16) (heap_in a r))) (writes (release (m - 16) (heap_in a r))) (Ok Done)))
       → P (release_call a r m)
   release-cases m unsound null dead live =
       sound-or-not a r
@@ -108,13 +107,13 @@ module _ (a r : List ℕ) (L : Lent a r) (P : After → Type 0) where
       (λ U. subst P (release-unsound a r m good U) (unsound U))
 
   pub resize-cases : (m n : ℕ) → (m ≡ 0 → P (grant_call a r n)) → ((m ≡ 0 → ⊥) → n ≡ 0 → P (release_call a r m))
-      → ((m ≡ 0 → ⊥) → 262144 < n → P (after a r (Refused R.Request))) → ((m ≡ 0 → ⊥) → n ≤ 262144 → UnsoundIn a r → P (after a r (Refused R.Unsound)))
-      → ((m ≡ 0 → ⊥) → n ≤ 262144 → SoundIn a r → (LiveMem a r m → ⊥) → P (after a r (Refused R.NotLive)))
-      → (1 ≤ n → n ≤ 262144 → SoundIn a r → LiveMem a r m → answer_of (resize (m - 16) (need n) (heap_in a r)) ≡ Nothing
-      → P (left a (heap_of (resize (m - 16) (need n) (heap_in a r))) (writes (resize (m - 16) (need n) (heap_in a r))) (Refused R.NoRoom)))
-      → (1 ≤ n → n ≤ 262144 → SoundIn a r → LiveMem a r m → (c : ℕ) → answer_of (resize (m - 16) (need n) (heap_in a r)) ≡ At c
+      → ((m ≡ 0 → ⊥) → 262144 < n → P (after a r (Err R.Request))) → ((m ≡ 0 → ⊥) → n ≤ 262144 → UnsoundIn a r → P (after a r (Err R.Unsound)))
+      → ((m ≡ 0 → ⊥) → n ≤ 262144 → SoundIn a r → (LiveMem a r m → ⊥) → P (after a r (Err R.NotLive)))
+      → (1 ≤ n → n ≤ 262144 → SoundIn a r → LiveMem a r m → answer_of (resize (m - 16) (need n) (heap_in a r)) ≡ None
+      → P (left a (heap_of (resize (m - 16) (need n) (heap_in a r))) (writes (resize (m - 16) (need n) (heap_in a r))) (Err R.NoRoom)))
+      → (1 ≤ n → n ≤ 262144 → SoundIn a r → LiveMem a r m → (c : ℕ) → answer_of (resize (m - 16) (need n) (heap_in a r)) ≡ Some c
       → P (left a (heap_of (resize (m - 16) (need n) (heap_in a r))) (writes (resize (m - 16) (need n) (heap_in a r)))
-      (Granted (c + 16) (usable (size_of (heap_of (resize (m - 16) (need n) (heap_in a r))) c)))))
+      (Ok (Granted (c + 16) (usable (size_of (heap_of (resize (m - 16) (need n) (heap_in a r))) c))))))
       → P (resize_call a r m n)
   resize-cases m n null zero large unsound dead none at = ⊎_elim
       (λ z. subst P (resize-null a r m n (eq-eqb m 0 z)) (null z))
@@ -137,8 +136,8 @@ module _ (a r : List ℕ) (L : Lent a r) (P : After → Type 0) where
       some k = ⊎_elim (λ l. absurd (k (omega arith))) (λ l. l) (lt-or-le n 1)
 
   -- the two jobs, emptying and joining
-  pub job-cases : (f : Heap → Ran (Unit {0})) → (UnsoundIn a r → P (after a r (Refused R.Unsound)))
-      → (SoundIn a r → P (left a (heap_of (f (heap_in a r))) (writes (f (heap_in a r))) Done)) → P (job_call f a r)
+  pub job-cases : (f : Heap → Ran (Unit {0})) → (UnsoundIn a r → P (after a r (Err R.Unsound)))
+      → (SoundIn a r → P (left a (heap_of (f (heap_in a r))) (writes (f (heap_in a r))) (Ok Done))) → P (job_call f a r)
   job-cases f unsound through =
       sound-or-not a r
       (λ S. subst P (job-sound f a r good S) (done-case a (f (heap_in a r)) P (through S)))

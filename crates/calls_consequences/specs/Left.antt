@@ -12,8 +12,7 @@ use Rattle.machine.specs.Lists.{both, cnt}
 use Rattle.machine.specs.Heap.{Heap, starts, size_of, live?, record_of}
 use Rattle.machine.specs.Writes.{Write, Ran, heap_of, writes, apply}
 use Rattle.machine.specs.Audit.{sound?}
-use Rattle.machine.specs.Calls.{left, shape?, arena_allowed?, words_of, heap_in}
-use Rattle.machine.specs.declared.Answer.{Answer}
+use Rattle.machine.specs.Calls.{left, shape?, arena_allowed?, words_of, heap_in, Answered}
 use Rattle.sound.specs.Relation.{Loose, Good, Sound}
 use Rattle.sound.specs.Tiles.{start}
 use Rattle.sound.specs.Frames.{apply-length}
@@ -52,7 +51,7 @@ lent-fine a r L S = record {
 pub left-length : (a r : List ℕ) → Lent a r → (ws : List Write) → length (bytes 8 (apply ws (arena_words a))) ≡ length a
 left-length a r L ws = omega (arith, length-bytes 8 (apply ws (arena_words a)), apply-length ws (arena_words a), length-arena_words a, L.even)
 
-module _ {A : Type 0} (a r : List ℕ) (s : Ran A) (y : Answer) (L : Lent a r) (E : Ends s (arena_words a) Fine) where
+module _ {A : Type 0} (a r : List ℕ) (s : Ran A) (y : Answered) (L : Lent a r) (E : Ends s (arena_words a) Fine) where
   pub left-heap : heap_left (left a (heap_of s) (writes s) y) ≡ heap_of s
   left-heap = written_read (heap_of s) E.now.good (apply (writes s) (arena_words a)) E.mem E.now.low
 

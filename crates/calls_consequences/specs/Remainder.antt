@@ -1,6 +1,6 @@
 -- Every step leaves a last remainder that a record's word can hold: the one before, none, or the offset of a rest that was cut from a chunk of a bin.
 -- Through the steps in their order. Assumes nothing.
-use Rattle.std.specs.Prelude.{◌≡◌, refl, Bool, eqb, ltb, leb, length}
+use Rattle.std.specs.Prelude.{◌≡◌, refl, Bool, eqb, ltb, leb, length, Option, Some, None}
 use Rattle.std.proofs.Common.{sym, subst, arith}
 use mathlib.Core.List.{List, [], ◌∷◌}
 use Rattle.std.proofs.Math.Bool.{true, false}
@@ -14,7 +14,7 @@ use Rattle.machine.specs.Primitives.{push, pop, push_cache, take_cache, link_in,
 use Rattle.machine.specs.Release.{absorb, join_next, put_down, join, drain, drains, consolidate, joined, release_past, release, emptying, joining}
 use Rattle.machine.specs.Grant.{room_for?, step1, move_fast, step2, take_last, move_lasts, step3, step4, split, front, behind, sort_in, lone?, split_lone, keep, turn_at, turn, swept, after_turn, sweep, step5, carve, step8, fit, step6, first_bin, step7, step9, pass, again, from4, seek, grant}
 use Rattle.machine.specs.Resize.{next_p, finish, copies, moved, resize}
-use Rattle.machine.specs.declared.{Got.Got, Got.TheVariants.At, Got.TheVariants.Nothing, Turn.Turn}
+use Rattle.machine.specs.declared.{Turn.Turn}
 use Rattle.machine.specs.declared.Turn.TheVariants as T
 use Rattle.sound.specs.Relation.{Mem, Loose, Good}
 use Rattle.sound.specs.Ends.{Ends, ends_more, ends-then}
@@ -41,11 +41,11 @@ low-if : {A : Type 0} (t : Bool) (x y : Ran A) → (t ≡ true → Low x) → (t
 low-if true x y p q = p refl
 low-if false x y p q = q refl
 
-low-got : {A : Type 0} (t : Got) (x : ℕ → Ran A) (y : Ran A) → ((c : ℕ) → t ≡ At c → Low (x c)) → Low y → Low {A = A} (elim t [ At c ↦ x c | Nothing ↦ y ])
-low-got (At c) x y p q = p c refl
-low-got Nothing x y p q = q
+low-got : {A : Type 0} (t : Option ℕ) (x : ℕ → Ran A) (y : Ran A) → ((c : ℕ) → t ≡ Some c → Low (x c)) → Low y → Low {A = A} (elim t [ Some c ↦ x c | None ↦ y ])
+low-got (Some c) x y p q = p c refl
+low-got None x y p q = q
 
-low_turn : (r : Ran Turn) (k s o : Heap → Ran Got) → Low r → Low (k (heap_of r)) → Low (s (heap_of r)) → Low (o (heap_of r)) → Low (after_turn r k s o)
+low_turn : (r : Ran Turn) (k s o : Heap → Ran (Option ℕ)) → Low r → Low (k (heap_of r)) → Low (s (heap_of r)) → Low (o (heap_of r)) → Low (after_turn r k s o)
 low_turn (ran h ws (T.Granted c)) k s o l x y z = l
 low_turn (ran h ws T.Cached) k s o l x y z = low-more ws (k h) x
 low_turn (ran h ws T.Binned) k s o l x y z = low-more ws (s h) y
@@ -55,7 +55,7 @@ low_turn (ran h ws T.Empty) k s o l x y z = low-more ws (o h) z
 module _ (b : ℕ) where
   step1-low : (h : Heap) → h.remainder ≤ none32 → Low (step1 b h)
   unfolding step1
-  step1-low h l = low-if (both (leb b most_cached) (some? (cache h (cache_of b)))) (take_cache (cache_of b) h) (ran h [] Nothing) (λ e. l) (λ e. l)
+  step1-low h l = low-if (both (leb b most_cached) (some? (cache h (cache_of b)))) (take_cache (cache_of b) h) (ran h [] None) (λ e. l) (λ e. l)
 
   move_fast-low : (xs : List ℕ) (h : Heap) → h.remainder ≤ none32 → Low (move_fast b xs h)
   unfolding move_fast
@@ -69,8 +69,8 @@ module _ (b : ℕ) where
   unfolding step2
   step2-low h l =
       let r : Ran (Unit {0}) = pop (fast_at (fast_of b)) h >>= (λ h. move_fast b (fast h (fast_of b)) h) in
-      low-if (both (leb b most_fast) (some? (fast h (fast_of b)))) (giving (At (hd none64 (fast h (fast_of b)))) r) (ran h [] Nothing)
-      (λ e. low-giving (At (hd none64 (fast h (fast_of b)))) r (low-then (pop (fast_at (fast_of b)) h) (λ h. move_fast b (fast h (fast_of b)) h) l (λ g k. move_fast-low (fast g (fast_of b)) g k)))
+      low-if (both (leb b most_fast) (some? (fast h (fast_of b)))) (giving (Some (hd none64 (fast h (fast_of b)))) r) (ran h [] None)
+      (λ e. low-giving (Some (hd none64 (fast h (fast_of b)))) r (low-then (pop (fast_at (fast_of b)) h) (λ h. move_fast b (fast h (fast_of b)) h) l (λ g k. move_fast-low (fast g (fast_of b)) g k)))
       (λ e. l)
 
   take_last-low : (j c : ℕ) (h : Heap) → h.remainder ≤ none32 → Low (take_last j c h)
@@ -93,8 +93,8 @@ module _ (b : ℕ) where
   step3-low h l =
       let c : ℕ = lst none64 (bin h (bin_of b)) in
       let f : Heap → Ran (Unit {0}) = λ h. move_lasts (length (bin h (bin_of b))) b h in
-      low-if (both (ltb b large) (some? (bin h (bin_of b)))) (giving (At c) (take_last (bin_of b) c h >>= f)) (ran h [] Nothing)
-      (λ e. low-giving (At c) (take_last (bin_of b) c h >>= f)
+      low-if (both (ltb b large) (some? (bin h (bin_of b)))) (giving (Some c) (take_last (bin_of b) c h >>= f)) (ran h [] None)
+      (λ e. low-giving (Some c) (take_last (bin_of b) c h >>= f)
       (low-then (take_last (bin_of b) c h) f (take_last-low (bin_of b) c h l) (λ g k. move_lasts-low (length (bin g (bin_of b))) g k)))
       (λ e. l)
 
@@ -106,9 +106,9 @@ pub record Fine (h : Heap) : Type 0 where
 fine_of : {A : Type 0} {r : Ran A} {w : List ℕ} → Ends r w Good → Low r → Ends r w Fine
 fine_of e l = record { mem = e.mem; now = record { good = e.now; low = l } }
 
-fine-else : {r : Ran Got} {w : List ℕ} (f : Heap → Ran Got) → Ends r w Fine → ((g : Heap) (v : List ℕ) → Fine g → Mem g v → Ends (f g) v Fine) → Ends (r or_else f) w Fine
-fine-else {r = ran h ws (At c)} f e k = e
-fine-else {r = ran h ws Nothing} {w = w} f e k = ends_more ws (f h) (k h (apply ws w) e.now e.mem)
+fine-else : {r : Ran (Option ℕ)} {w : List ℕ} (f : Heap → Ran (Option ℕ)) → Ends r w Fine → ((g : Heap) (v : List ℕ) → Fine g → Mem g v → Ends (f g) v Fine) → Ends (r or_else f) w Fine
+fine-else {r = ran h ws (Some c)} f e k = e
+fine-else {r = ran h ws None} {w = w} f e k = ends_more ws (f h) (k h (apply ws w) e.now e.mem)
 
 fine-if : {A : Type 0} {w : List ℕ} (t : Bool) {x y : Ran A} → Ends x w Fine → Ends y w Fine → Ends {A = A} (elim t [ true ↦ x | false ↦ y ]) w Fine
 fine-if true p q = p
@@ -196,18 +196,18 @@ module _ (b : ℕ) (b16 : b % 16 ≡ 0) (b32 : 32 ≤ b) (most : b ≤ 262160) w
   step8-low : (j c : ℕ) (new? : Bool) (h : Heap) → h.remainder ≤ none32 → c + b ≤ none32 → Low (step8 j c b new? h)
   unfolding step8
   step8-low j c new? h l s =
-      low-giving (At c) (unlink j c h >>= (λ h. carve c b new? h)) (low-then (unlink j c h) (λ h. carve c b new? h) l (λ g k. carve-low c new? g k s))
+      low-giving (Some c) (unlink j c h >>= (λ h. carve c b new? h)) (low-then (unlink j c h) (λ h. carve c b new? h) l (λ g k. carve-low c new? g k s))
 
   step6-fine : (h : Heap) (w : List ℕ) → Fine h → Mem h w → Ends (step6 b h) w Fine
   unfolding step6
   step6-fine h w F m = fine_of (step6-ends b b16 b32 h w F.good m) low
     where
-      at : (c : ℕ) → fit (λ x. size_of h x) b (bin h (bin_of b)) ≡ At c → c + b ≤ none32
+      at : (c : ℕ) → fit (λ x. size_of h x) b (bin h (bin_of b)) ≡ Some c → c + b ≤ none32
       at c e = omega (arith, bin-most h F.good (bin_of b) c (fit_has (λ x. size_of h x) b (bin h (bin_of b)) c e).0)
 
       low : Low (step6 b h)
-      low = low-if (leb large b) (elim (fit (λ x. size_of h x) b (bin h (bin_of b))) [ At c ↦ step8 (bin_of b) c b false h | Nothing ↦ ran h [] Nothing ]) (ran h [] Nothing)
-          (λ e. low-got (fit (λ x. size_of h x) b (bin h (bin_of b))) (λ c. step8 (bin_of b) c b false h) (ran h [] Nothing)
+      low = low-if (leb large b) (elim (fit (λ x. size_of h x) b (bin h (bin_of b))) [ Some c ↦ step8 (bin_of b) c b false h | None ↦ ran h [] None ]) (ran h [] None)
+          (λ e. low-got (fit (λ x. size_of h x) b (bin h (bin_of b))) (λ c. step8 (bin_of b) c b false h) (ran h [] None)
           (λ c q. step8-low (bin_of b) c false h F.low (at c q)) F.low)
           (λ e. F.low)
 
@@ -216,7 +216,7 @@ module _ (b : ℕ) (b16 : b % 16 ≡ 0) (b32 : 32 ≤ b) (most : b ≤ 262160) w
   step7-fine h w F m = fine_of (step7-ends b b16 b32 h w F.good m) low
     where
       low : Low (step7 b h)
-      low = low-got (first_bin (last_bin - bin_of b) (suc (bin_of b)) h) (λ j. step8 j (lst none64 (bin h j)) b (ltb b large) h) (ran h [] Nothing)
+      low = low-got (first_bin (last_bin - bin_of b) (suc (bin_of b)) h) (λ j. step8 j (lst none64 (bin h j)) b (ltb b large) h) (ran h [] None)
           (λ j q.
           let c : ℕ = lst none64 (bin h j) in
           let i : 1 ≤ cnt c (bin h j) = some-has (bin h j) (first_bin-has (last_bin - bin_of b) (suc (bin_of b)) h j q).0 in
@@ -228,7 +228,7 @@ module _ (b : ℕ) (b16 : b % 16 ≡ 0) (b32 : 32 ≤ b) (most : b ≤ 262160) w
   step9-fine h w F m = fine_of (step9-ends b b16 b32 h w F.good m) low
     where
       low : Low (step9 b h)
-      low = low-if (leb (b + 32) (top_size h)) (cut_top b h) (ran h [] Nothing) (λ e. F.low) (λ e. F.low)
+      low = low-if (leb (b + 32) (top_size h)) (cut_top b h) (ran h [] None) (λ e. F.low) (λ e. F.low)
 
   pass-fine : (h : Heap) (w : List ℕ) → Fine h → Mem h w → Ends (pass b h) w Fine
   unfolding pass
@@ -330,15 +330,15 @@ module _ (c b : ℕ) where
   widen_low : (h : Heap) → h.remainder ≤ none32 → Low (widen c h >>= finish c b)
   widen_low h l = low-then (widen c h) (finish c b) l finish-low
 
-  moved-low : (z : ℕ) (r : Ran Got) → Low r → Low (moved c b z r)
-  moved-low z (ran h ws Nothing) l = l
-  moved-low z (ran h ws (At d)) l =
+  moved-low : (z : ℕ) (r : Ran (Option ℕ)) → Low r → Low (moved c b z r)
+  moved-low z (ran h ws None) l = l
+  moved-low z (ran h ws (Some d)) l =
       let x : Ran (Unit {0}) = widen c h >>= finish c b in
       let y : Ran ℕ = does h (copies d c (z / 8 - 1)) >>= release c in
-      low-more {A = Got} ws (elim (eqb d (c + z)) [ true ↦ giving (At c) x | false ↦ giving (At d) y ])
-      (low-if (eqb d (c + z)) (giving (At c) x) (giving (At d) y)
-      (λ e. low-giving (At c) x (widen_low h l))
-      (λ e. low-giving (At d) y (low-then (does h (copies d c (z / 8 - 1))) (release c) l (release-low c))))
+      low-more {A = Option ℕ} ws (elim (eqb d (c + z)) [ true ↦ giving (Some c) x | false ↦ giving (Some d) y ])
+      (low-if (eqb d (c + z)) (giving (Some c) x) (giving (Some d) y)
+      (λ e. low-giving (Some c) x (widen_low h l))
+      (λ e. low-giving (Some d) y (low-then (does h (copies d c (z / 8 - 1))) (release c) l (release-low c))))
 
 pub resize-fine : (b : ℕ) → b % 16 ≡ 0 → 32 ≤ b → b ≤ 262160 → (c : ℕ) (h : Heap) (w : List ℕ) → Fine h → Mem h w → Loose h c → Ends (resize c b h) w Fine
 unfolding resize
@@ -349,12 +349,12 @@ resize-fine b b16 b32 most c h w F m lo = fine_of (resize-ends b b16 b32 h w F.g
         let x : Ran (Unit {0}) = unlink (bin_has h (next h c)) (next h c) h >>= (λ h. widen c h >>= finish c b) in
         let from_bin : Bool = both (ltb 0 (binned h (next h c))) (leb b (size_of h c + size_of h (next h c))) in
         let from_top : Bool = both (eqb (next h c) (top_of h)) (leb (b + 32) (size_of h c + top_size h)) in
-        let sought : Ran Got = moved c b (size_of h c) (seek b h) in
-        low-if (leb b (size_of h c)) (giving (At c) (finish c b h))
-        (elim from_top [ true ↦ giving (At c) (grow_top c b h) | false ↦ elim from_bin [ true ↦ giving (At c) x | false ↦ sought ] ])
-        (λ e. low-giving (At c) (finish c b h) (finish-low c b h F.low))
-        (λ e. low-if from_top (giving (At c) (grow_top c b h)) (elim from_bin [ true ↦ giving (At c) x | false ↦ sought ])
+        let sought : Ran (Option ℕ) = moved c b (size_of h c) (seek b h) in
+        low-if (leb b (size_of h c)) (giving (Some c) (finish c b h))
+        (elim from_top [ true ↦ giving (Some c) (grow_top c b h) | false ↦ elim from_bin [ true ↦ giving (Some c) x | false ↦ sought ] ])
+        (λ e. low-giving (Some c) (finish c b h) (finish-low c b h F.low))
+        (λ e. low-if from_top (giving (Some c) (grow_top c b h)) (elim from_bin [ true ↦ giving (Some c) x | false ↦ sought ])
         (λ e. F.low)
-        (λ e. low-if from_bin (giving (At c) x) sought
-        (λ e. low-giving (At c) x (low-then (unlink (bin_has h (next h c)) (next h c) h) (λ h. widen c h >>= finish c b) F.low (widen_low c b)))
+        (λ e. low-if from_bin (giving (Some c) x) sought
+        (λ e. low-giving (Some c) x (low-then (unlink (bin_has h (next h c)) (next h c) h) (λ h. widen c h >>= finish c b) F.low (widen_low c b)))
         (λ e. moved-low c b (size_of h c) (seek b h) (seek-fine b b16 b32 most h w F m).now.low)))

@@ -5,8 +5,7 @@ use Rattle.le.specs.Arena.{arena_words}
 use Rattle.sizes.specs.Sizes.{need}
 use Rattle.machine.specs.Heap.{Heap, cache, size_of, p_of, live?}
 use Rattle.machine.specs.Audit.{sound?, audit_of}
-use Rattle.machine.specs.Calls.{After, after, words_of, heap_in}
-use Rattle.machine.specs.declared.Answer.{Answer}
+use Rattle.machine.specs.Calls.{After, after, words_of, heap_in, Answered}
 use Rattle.sound.specs.Drain.{NoFast}
 use Rattle.sound.specs.Resize.{standing}
 
@@ -27,7 +26,7 @@ abbrev pub UnsoundIn : List ℕ → List ℕ → Type 0
 UnsoundIn a r = sound? (audit_of (arena_words a) (words_of r)) ≡ false
 
 -- ---- what a call left
-abbrev pub answered : After → Answer
+abbrev pub answered : After → Answered
 answered (after a r x) = x
 
 abbrev pub arena_left : After → List ℕ

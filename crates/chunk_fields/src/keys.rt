@@ -10,7 +10,7 @@ const HALF: u64 = 4294967296;
 fn joined(low: u32, high: u32) -> u64
     ensures { result ≡ low + 2 ^ 32 * high }
 {
-    (low as u64) + HALF * (high as u64)
+    u64::from(low) + HALF * u64::from(high)
 }
 
 pub fn key_in(r: &[u32]) -> u64

@@ -22,6 +22,8 @@ use sizes::{Chunk, SizeWord};
 #[derive(Clone, Copy)]
 pub struct Link(pub u64);
 
+// Kept: a reader and a writer for each field, alike but for the place: each name is its field's, and the one place that knows where it lies.
+
 // The size word of the chunk at c, and the size in it.
 pub fn size_word_at(a: &[u8], c: Chunk) -> SizeWord
     requires { (c.0 % 8 ≡ 0) × (c.0 + 16 ≤ length a.now) }

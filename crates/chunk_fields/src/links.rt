@@ -13,7 +13,7 @@ pub fn link_of(v: u32) -> Link
     if v == NONE32 {
         return Link(NONE64);
     }
-    Link(v as u64)
+    Link(u64::from(v))
 }
 
 // A link of the arena as a word of the record.

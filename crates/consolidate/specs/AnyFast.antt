@@ -1,6 +1,8 @@
 -- Whether some fast list has a chunk, list by list: those before list k are empty, so the answer lies in the lists from k on. Assumes nothing.
-use Rattle.std.specs.Prelude.{◌≡◌, refl, Bool, true, false, List, [], ℕ, suc, ◌+◌, ◌<◌, get_or, drop}
-use Rattle.std.proofs.Common.{sym, ap, ◌∙◌, arith, drop_of_length-le, drop-cons}
+use Rattle.std.specs.Prelude.{◌≡◌, refl, Bool, true, false, not, ◌||◌, List, [], ◌∷◌, ℕ, zero, suc, ◌+◌, ◌<◌, length, get_or, take, drop, eqb, slice_range}
+use Rattle.std.specs.List.{list_any}
+use Rattle.std.proofs.Common.{sym, ap, ◌∙◌, subst, inl, inr, arith, drop_of_length-le, drop-cons, eq-eqb, ne_eqb}
+use Rattle.std.proofs.lemmas.Bool.{cases_eq}
 use Rattle.sizes.specs.Limits.{none32}
 use Rattle.sizes.specs.Layout.{fast_head}
 use Rattle.machine.specs.Lists.{either, some?, any?}
@@ -33,3 +35,24 @@ module _ (r : List ℕ) (k : ℕ) (l : k < 10) (f : From r k) where
 
 pub from_end : (r : List ℕ) (k : ℕ) → k ≡ 10 → From r k → Told r false
 from_end r k e f h w o = sym (f h w o ∙ ap any? (drop_of_length-le h.stacks {i = fast_at k} (omega (arith, o.shape.stacked74))))
+
+-- ---- whether one of the heads is not none: those of lists k to k + n - 1, the last one's 9
+abbrev heads_some? : List ℕ → Bool
+heads_some? l = list_any (λ x. not (eqb x none32)) l
+
+module _ (r : List ℕ) (s : length r ≡ 396) where
+  heads-from : (n k : ℕ) → k + n ≡ 10 → From r k → (t : Bool) → t ≡ heads_some? (take n (drop (fast_head k) r)) → Told r t
+  heads-from zero k e f t p = subst (Told r) (sym p) (from_end r k (omega (arith, e)) f)
+  heads-from (suc n) k e f t p =
+      let here : drop (fast_head k) r ≡ get_or r (fast_head k) 0 ∷ drop (suc (fast_head k)) r = drop-cons r (fast_head k) 0 (omega (arith, e, s)) in
+      let next : suc (fast_head k) ≡ fast_head (k + 1) = omega arith in
+      let q : t ≡ heads_some? (get_or r (fast_head k) 0 ∷ take n (drop (fast_head (k + 1)) r)) =
+      p ∙ ap (λ l. heads_some? (take (suc n) l)) here ∙ ap (λ i. heads_some? (get_or r (fast_head k) 0 ∷ take n (drop i r))) next in
+      let rest : Bool = heads_some? (take n (drop (fast_head (k + 1)) r)) in
+      elim (cases_eq (get_or r (fast_head k) 0) none32) [
+        | inl y ↦ heads-from n (k + 1) (omega (arith, e)) (from_next r k (omega (arith, e)) f y) t (q ∙ ap (λ b. not b || rest) (eq-eqb (get_or r (fast_head k) 0) none32 y))
+        | inr y ↦ subst (Told r) (sym (q ∙ ap (λ b. not b || rest) (ne_eqb (get_or r (fast_head k) 0) none32 y))) (from_found r k (omega (arith, e)) f y)
+      ]
+
+  pub told : (t : Bool) → t ≡ list_any (λ x. not (eqb x 4294967295)) (slice_range r 131 141) → Told r t
+  told t e = heads-from 10 0 refl (from_start r) t e

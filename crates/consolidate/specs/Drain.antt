@@ -1,6 +1,6 @@
 -- A stack is emptied chunk by chunk, and stacks are one after another, as the machine's drain and drains do it: what a turn of each loop comes to.
 -- The fast list's length is read from the words, along its links. Assumes nothing.
-use Rattle.std.specs.Prelude.{◌≡◌, true, ℕ, suc, ◌+◌, ◌-◌, ◌≤◌, ◌<◌, length, get_or}
+use Rattle.std.specs.Prelude.{◌≡◌, true, ℕ, suc, ◌+◌, ◌-◌, ◌≤◌, ◌<◌, length, get_or, Option, Some}
 use Rattle.std.proofs.Math.Path.{refl, sym, ap}
 use Rattle.std.proofs.Common.{◌∙◌, subst, arith}
 use mathlib.Core.List.{List, [], ◌∷◌}
@@ -13,7 +13,6 @@ use Rattle.machine.specs.Writes.{Ran, ran, heap_of, writes, apply, ◌>>=◌}
 use Rattle.machine.specs.Primitives.{pop}
 use Rattle.machine.specs.Release.{join, drain, drains, consolidate}
 use Rattle.machine.specs.View.{up, edition_in, chunks_by}
-use Rattle.machine.specs.declared.{Got.Got, Got.TheVariants.At}
 use Rattle.sound.specs.Relation.{Mem, Loose, Good}
 use Rattle.sound.specs.Moves.{nil, one, any}
 use Rattle.sound.specs.Leaves.{Leaves, Still}
@@ -38,11 +37,11 @@ module _ (h : Heap) (w r : List ℕ) (o : Ok h w r) where
       ∙ ap length (walk-list h.edition (length w) w l (list-short h w o.shape o.mem l (λ x. omega (arith, o.shape.own x, cnt-le-all x h.stacks (fast_at k)))) (ok-stack h w r o (fast_at k)) (o.mem.chains (fast_at k)))
 
 -- ---- the machine's drain, from the stack as it is: t takes the head of a stack of M; f is what is done with it, and leaves the stacks of M as they are
-abbrev pub drain_of : (ℕ → Heap → Ran Got) → (ℕ → Heap → Ran ℕ) → ℕ → Heap → Ran (Unit {0})
+abbrev pub drain_of : (ℕ → Heap → Ran (Option ℕ)) → (ℕ → Heap → Ran ℕ) → ℕ → Heap → Ran (Unit {0})
 drain_of t f k h = drain t f k (stack h k) h
 
-module _ (t : ℕ → Heap → Ran Got) (f : ℕ → Heap → Ran ℕ) (M : ℕ → Type 0)
-    (H : (k : ℕ) (h : Heap) → answer (t k h) ≡ At (hd none64 (stack h k)))
+module _ (t : ℕ → Heap → Ran (Option ℕ)) (f : ℕ → Heap → Ran ℕ) (M : ℕ → Type 0)
+    (H : (k : ℕ) (h : Heap) → answer (t k h) ≡ Some (hd none64 (stack h k)))
     (T : (h : Heap) (w : List ℕ) (k c : ℕ) (l : List ℕ) → Good h → Mem h w → stack h k ≡ c ∷ l → k < 74 → M k → Leaves h w (t k h) (λ a g. Taken h k c l g) (any (one c)) nil)
     (F : (h : Heap) (w : List ℕ) (c : ℕ) → Good h → Mem h w → Loose h c → Leaves h w (f c h) (λ a g. Good g × Still M h g) (any nil) (one c))
     (k : ℕ) (hk : k < 74) (mk : M k) where
@@ -52,14 +51,14 @@ module _ (t : ℕ → Heap → Ran Got) (f : ℕ → Heap → Ran ℕ) (M : ℕ 
 
   -- the head c of the stack is taken
   module _ (h : Heap) (w r : List ℕ) (o : Ok h w r) (g : Good h) (some : some? (stack h k) ≡ true) {c : ℕ} {u q : List ℕ}
-      (P : Does Got (λ h. some? (stack h k) ≡ true) (t k) w r (At c) u q) where
+      (P : Does (Option ℕ) (λ h. some? (stack h k) ≡ true) (t k) w r (Some c) u q) where
     abbrev h₁ : Heap
     h₁ = heap_of (t k h)
 
     list-is : stack h k ≡ c ∷ tl (stack h k)
     list-is = go (stack h k) some (sym (H k h) ∙ (P.does h o some).says)
       where
-        go : (l : List ℕ) → some? l ≡ true → ◌≡◌ {A = Got} (At (hd none64 l)) (At c) → l ≡ c ∷ tl l
+        go : (l : List ℕ) → some? l ≡ true → ◌≡◌ {A = Option ℕ} (Some (hd none64 l)) (Some c) → l ≡ c ∷ tl l
         go [] s e = let z : ◌≡◌ {A = ℕ} 0 1 = cc in absurd (omega arith)
         go (x ∷ l) s e = let z : x ≡ c = cc in ap (λ (x : ℕ). x ∷ l) z
 
@@ -67,7 +66,7 @@ module _ (t : ℕ → Heap → Ran Got) (f : ℕ → Heap → Ran ℕ) (M : ℕ 
     taken = T h w k c (tl (stack h k)) g o.mem list-is hk mk
 
     taken-ok : Ok h₁ u q
-    taken-ok = gave-ok (t k h) (At c) taken.now.good.shape taken.mem (P.does h o some)
+    taken-ok = gave-ok (t k h) (Some c) taken.now.good.shape taken.mem (P.does h o some)
 
     pub taken-has : Has (λ h. Good h × Loose h c) u q
     taken-has = record { heap = h₁; ok = taken-ok; holds = (taken.now.good, taken.now.loose) }
@@ -107,13 +106,13 @@ module _ (t : ℕ → Heap → Ran Got) (f : ℕ → Heap → Ran ℕ) (M : ℕ 
       turn-reach : {o₀ : Ran (Unit {0})} {w₀ : List ℕ} (R : Reach (Unit {0}) o₀ (drain_of t f k) w₀ w r) → R.heap ≡ h
           → Reach (Unit {0}) o₀ (drain_of t f k) w₀ v q'
       turn-reach R e = reach-then R (t k h >>= f c) s (drain_of t f k) (ap (drain_of t f k) e ∙ drain-turn)
-          (gave_then (t k h) (f c) (At c) s (P.does h o some) done-gave)
+          (gave_then (t k h) (f c) (Some c) s (P.does h o some) done-gave)
           (ends_next (t k h) (f c) w Good (record { mem = left₁.mem; now = left₁.now.0 }))
 
   -- ---- the loop's turn, and its end
   pub drain-next : {o₀ : Ran (Unit {0})} {w₀ w r : List ℕ} {c s : ℕ} {u q v q' : List ℕ} (R : Reach (Unit {0}) o₀ (drain_of t f k) w₀ w r)
       → some? (stack R.heap k) ≡ true
-      → Does Got (λ h. some? (stack h k) ≡ true) (t k) w r (At c) u q → Does ℕ (λ h. Good h × Loose h c) (f c) u q s v q' → Reach (Unit {0}) o₀
+      → Does (Option ℕ) (λ h. some? (stack h k) ≡ true) (t k) w r (Some c) u q → Does ℕ (λ h. Good h × Loose h c) (f c) u q s v q' → Reach (Unit {0}) o₀
       (drain_of t f k) w₀ v q'
   drain-next {o₀} {w₀} {w} {r} R m P D = turn-reach R.heap w r R.ok R.good m P D R refl
 
@@ -131,13 +130,13 @@ module _ (t : ℕ → Heap → Ran Got) (f : ℕ → Heap → Ran ℕ) (M : ℕ 
       let L = drain-leaves t f M T F k hk mk (stack h k) h w R.good R.ok.mem refl in
       reach-then R (drain_of t f k h) tt (λ g. drains t f n (suc k) g) refl (D.does h R.ok R.good) (record { mem = L.mem; now = L.now.0 })
 
-pub drains-done : (t : ℕ → Heap → Ran Got) (f : ℕ → Heap → Ran ℕ) (k : ℕ) {o₀ : Ran (Unit {0})} {w₀ w r : List ℕ} → Reach (Unit {0}) o₀ (drains t f 0 k) w₀ w r
+pub drains-done : (t : ℕ → Heap → Ran (Option ℕ)) (f : ℕ → Heap → Ran ℕ) (k : ℕ) {o₀ : Ran (Unit {0})} {w₀ w r : List ℕ} → Reach (Unit {0}) o₀ (drains t f 0 k) w₀ w r
     → Gave (Unit {0}) o₀ tt w₀ w r
 unfolding drains
 drains-done t f k R = reach-end R tt refl
 
 -- ---- how a fast list's head is taken
-pub pop-head : (k : ℕ) (h : Heap) → answer (pop k h) ≡ At (hd none64 (stack h k))
+pub pop-head : (k : ℕ) (h : Heap) → answer (pop k h) ≡ Some (hd none64 (stack h k))
 pop-head k h = refl
 
 pub pop-takes : (h : Heap) (w : List ℕ) (k c : ℕ) (l : List ℕ) → Good h → Mem h w → stack h k ≡ c ∷ l → k < 74 → Every k → Leaves h w (pop k h) (λ a g. Taken h k c l g) (any (one c)) nil
@@ -147,7 +146,7 @@ pop-takes h w k c l g m e hk mk = pop-taken h w k c l g m e hk
 pub fast-less : (k : ℕ) → k < 10
     → {o₀ : Ran (Unit {0})} {w₀ w r : List ℕ} {c s : ℕ} {q v q' : List ℕ} (R : Reach (Unit {0}) o₀ (drain_of pop join (fast_at k)) w₀ w r) → some?
     (stack R.heap (fast_at k)) ≡ true
-    → Does Got (λ h. some? (stack h (fast_at k)) ≡ true) (pop (fast_at k)) w r (At c) w q → Does ℕ (λ h. Good h × Loose h c)
+    → Does (Option ℕ) (λ h. some? (stack h (fast_at k)) ≡ true) (pop (fast_at k)) w r (Some c) w q → Does ℕ (λ h. Good h × Loose h c)
     (join c) w q s v q' → left v q' k < left w r k
 fast-less k hk {o₀} {w₀} {w} {r} {c} {s} {q} {v} {q'} R m P D =
     let L = drain-fewer pop join Every pop-head pop-takes join-leaves (fast_at k) (omega arith) tt R.heap w r R.ok R.good m P D in

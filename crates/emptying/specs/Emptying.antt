@@ -1,6 +1,6 @@
 -- A cache list is emptied chunk by chunk, and the lists one after another, as the machine's emptying does it: by the laws of a drain.
 -- A cache list's length is its count in the record. Assumes nothing.
-use Rattle.std.specs.Prelude.{◌≡◌, refl, true, List, ◌∷◌, ℕ, suc, ◌+◌, ◌-◌, ◌≤◌, ◌<◌, get_or}
+use Rattle.std.specs.Prelude.{◌≡◌, refl, true, List, ◌∷◌, ℕ, suc, ◌+◌, ◌-◌, ◌≤◌, ◌<◌, get_or, Option, Some}
 use Rattle.std.proofs.Common.{subst, arith}
 use Rattle.sizes.specs.Limits.{none64}
 use Rattle.sizes.specs.Layout.{cache_count}
@@ -9,7 +9,6 @@ use Rattle.machine.specs.Heap.{Heap, stack}
 use Rattle.machine.specs.Writes.{Ran}
 use Rattle.machine.specs.Primitives.{take_cache}
 use Rattle.machine.specs.Release.{release_past, drains, emptying}
-use Rattle.machine.specs.declared.{Got.Got, Got.TheVariants.At}
 use Rattle.sound.specs.Relation.{Mem, Loose, Good}
 use Rattle.sound.specs.Moves.{nil, one, any}
 use Rattle.sound.specs.Leaves.{Leaves, Cached}
@@ -21,7 +20,7 @@ use Rattle.primitives.specs.Reach.{Reach, Way, way-here}
 use Rattle.consolidate.specs.Drain.{drain_of, drain-fewer, drains-next, drains-done}
 
 -- ---- how a cache list's head is taken
-pub take_head : (k : ℕ) (h : Heap) → answer (take_cache k h) ≡ At (hd none64 (stack h k))
+pub take_head : (k : ℕ) (h : Heap) → answer (take_cache k h) ≡ Some (hd none64 (stack h k))
 take_head k h = refl
 
 pub take-takes : (h : Heap) (w : List ℕ) (k c : ℕ) (l : List ℕ) → Good h → Mem h w → stack h k ≡ c ∷ l → k < 74 → Cached k → Leaves h w (take_cache k h) (λ a g. Taken h k c l g) (any (one c)) nil
@@ -31,7 +30,7 @@ take-takes h w k c l g m e hk mk = take_cache-taken h w k c l g m e mk
 pub cache-less : (k : ℕ) → k < 64
     → {o₀ : Ran (Unit {0})} {w₀ w r : List ℕ} {c s : ℕ} {u q v q' : List ℕ} (R : Reach (Unit {0}) o₀ (drain_of take_cache release_past k) w₀ w r) → some?
     (stack R.heap k) ≡ true
-    → Does Got (λ h. some? (stack h k) ≡ true) (take_cache k) w r (At c) u q → Does ℕ (λ h. Good h × Loose h c) (release_past c) u q s v q'
+    → Does (Option ℕ) (λ h. some? (stack h k) ≡ true) (take_cache k) w r (Some c) u q → Does ℕ (λ h. Good h × Loose h c) (release_past c) u q s v q'
     → get_or q' (cache_count k) 0 < get_or r (cache_count k) 0
 cache-less k hk {o₀} {w₀} {w} {r} {c} {s} {u} {q} {v} {q'} R m P D =
     let L = drain-fewer take_cache release_past Cached take_head take-takes release_past-leaves k (omega arith) hk R.heap w r R.ok R.good m P D in

@@ -28,9 +28,7 @@ pub fn emptying(a: &mut [u8], r: &mut [u32])
     requires { Has Good (arena_words a.old) r.old }
     ensures { Does (Unit {0}) Good emptying (arena_words a.old) r.old tt (arena_words a.new) r.new }
 {
-    let mut k: usize = 0;
-    while k < CACHE_LISTS {
+    for k in 0..CACHE_LISTS {
         drain_cache(a, r, k);
-        k += 1;
     }
 }

@@ -1,5 +1,5 @@
 -- Step 1, where it found a chunk, changed one cache list: which of the record's words changed. Assumes nothing.
-use Rattle.std.specs.Prelude.{◌≡◌, refl, Bool, true, false, List, ℕ, ◌≤◌, ◌<◌, leb}
+use Rattle.std.specs.Prelude.{◌≡◌, refl, Bool, true, false, List, ℕ, ◌≤◌, ◌<◌, leb, Option, Some}
 use Rattle.std.proofs.Common.{sym, ap, ◌∙◌, leb-true}
 use Rattle.sizes.specs.Limits.{most_cached}
 use Rattle.sizes.specs.Sizes.{cache_of}
@@ -9,27 +9,26 @@ use Rattle.machine.specs.Writes.{Ran, heap_of, nothing}
 use Rattle.machine.specs.Primitives.{take_cache}
 use Rattle.machine.specs.Grant.{step1}
 use Rattle.machine.specs.Calls.{words_of}
-use Rattle.machine.specs.declared.{Got.Got, Got.TheVariants.At}
 use Rattle.sound.specs.Relation.{Good}
 use Rattle.record_words.specs.CacheOnly.{CacheOnly}
 use Rattle.primitives.specs.Follow.{Has, answer, Does}
 use Rattle.primitives.specs.FollowLaws.{got-absurd}
 use Rattle.primitives.specs.CacheList.{cache-only}
 
-step1-found : (b : ℕ) (h : Heap) (c : ℕ) → answer (step1 b h) ≡ At c → (b ≤ most_cached) × (heap_of (step1 b h) ≡ with_stack (cache_of b) (tl (stack h (cache_of b))) h)
+step1-found : (b : ℕ) (h : Heap) (c : ℕ) → answer (step1 b h) ≡ Some c → (b ≤ most_cached) × (heap_of (step1 b h) ≡ with_stack (cache_of b) (tl (stack h (cache_of b))) h)
 unfolding step1
 step1-found b h c e = go (leb b most_cached) refl (some? (stack h (cache_of b))) e
   where
-    one : Bool → Ran Got
+    one : Bool → Ran (Option ℕ)
     one t = elim t [ true ↦ take_cache (cache_of b) h | false ↦ nothing h ]
 
-    go : (t : Bool) → leb b most_cached ≡ t → (u : Bool) → answer (one (both t u)) ≡ At c
+    go : (t : Bool) → leb b most_cached ≡ t → (u : Bool) → answer (one (both t u)) ≡ Some c
         → (b ≤ most_cached) × (heap_of (one (both t u)) ≡ with_stack (cache_of b) (tl (stack h (cache_of b))) h)
     go true l true e = (leb-true b most_cached l, refl)
     go true l false e = got-absurd (sym e)
     go false l u e = got-absurd (sym e)
 
-module _ (b c : ℕ) (w q v p : List ℕ) (g : Got) (H : Has Good w q) (d : Does Got Good (step1 b) w q g v p) (e : g ≡ At c) where
+module _ (b c : ℕ) (w q v p : List ℕ) (g : Option ℕ) (H : Has Good w q) (d : Does (Option ℕ) Good (step1 b) w q g v p) (e : g ≡ Some c) where
   found : (b ≤ most_cached) × (heap_of (step1 b H.heap) ≡ with_stack (cache_of b) (tl (stack H.heap (cache_of b))) H.heap)
   found = step1-found b H.heap c ((d.does H.heap H.ok H.holds).says ∙ e)
 

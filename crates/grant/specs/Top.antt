@@ -1,5 +1,5 @@
 -- Step 9, as the code does it, follows the machine: the record has the top and the length, and the top's size is what lies between. Assumes nothing.
-use Rattle.std.specs.Prelude.{◌≡◌, refl, List, [], ◌∷◌, ◌++◌, ℕ, ◌+◌, ◌-◌, ◌%◌, ◌≤◌, ◌<◌, length, get_or, set}
+use Rattle.std.specs.Prelude.{◌≡◌, refl, List, [], ◌∷◌, ◌++◌, ℕ, ◌+◌, ◌-◌, ◌%◌, ◌≤◌, ◌<◌, length, get_or, set, Option, Some, None}
 use Rattle.std.proofs.Common.{sym, ap, ◌∙◌, arith}
 use Rattle.std.proofs.Math.Bool.{true, false}
 use Rattle.std.proofs.Math.Dec.{leb}
@@ -11,7 +11,6 @@ use Rattle.machine.specs.Heap.{tile, Heap, top_of, top_size, record_of}
 use Rattle.machine.specs.Writes.{size, put, nothing}
 use Rattle.machine.specs.Primitives.{cut_top}
 use Rattle.machine.specs.Grant.{step9}
-use Rattle.machine.specs.declared.{Got.Got, Got.TheVariants.At, Got.TheVariants.Nothing}
 use Rattle.sound.specs.Relation.{Good}
 use Rattle.sound.specs.Tiles.{tiled-split, end-even}
 use Rattle.sound.specs.Apart.{tiled-tiles}
@@ -48,22 +47,22 @@ module _ (b : ℕ) (h : Heap) where
   nine-cut l = let t : leb (b + 32) (top_size h) ≡ true = le-leb (b + 32) (top_size h) l in rw (t, step9)
 
 module _ (b : ℕ) (w r : List ℕ) where
-  pub short9 : get_or r length_word 0 - get_or r top_word 0 < b + 32 → Does Got Good (step9 b) w r Nothing w r
-  short9 l = record { does = λ h o g. gave-by (nine-short b h (omega (arith, l, ok-len h w r o, ok-top h w r o))) (gave-none h Nothing w r o.rec) }
+  pub short9 : get_or r length_word 0 - get_or r top_word 0 < b + 32 → Does (Option ℕ) Good (step9 b) w r None w r
+  short9 l = record { does = λ h o g. gave-by (nine-short b h (omega (arith, l, ok-len h w r o, ok-top h w r o))) (gave-none h None w r o.rec) }
 
   pub took9 : (v u : List ℕ) → b + 32 ≤ get_or r length_word 0 - get_or r top_word 0 → v ≡ put (size (get_or r top_word 0) b 1) w
       → u ≡ put (size (get_or r top_word 0 + b) (get_or r length_word 0 - get_or r top_word 0 - b) 1) v
-      → Does Got Good (step9 b) w r (At (get_or r top_word 0)) u (set r top_word (get_or r top_word 0 + b))
+      → Does (Option ℕ) Good (step9 b) w r (Some (get_or r top_word 0)) u (set r top_word (get_or r top_word 0 + b))
   took9 v u l e f = record { does = λ h o g. gave-by (nine-cut b h (omega (arith, l, ok-len h w r o, ok-top h w r o))) (gave h o) }
     where
-      gave : (h : Heap) → Ok h w r → Gave Got (cut_top b h) (At (get_or r top_word 0)) w u (set r top_word (get_or r top_word 0 + b))
+      gave : (h : Heap) → Ok h w r → Gave (Option ℕ) (cut_top b h) (Some (get_or r top_word 0)) w u (set r top_word (get_or r top_word 0 + b))
       gave h o =
           let t : ℕ = top_of h in
           let et = ok-top h w r o in
           let z : get_or r length_word 0 - get_or r top_word 0 - b ≡ h.len - (t + b) = omega (arith, et, ok-len h w r o) in
           let x : ℕ = get_or r length_word 0 - get_or r top_word 0 - b in
           record {
-            says = ap (λ (t : ℕ). At t) (sym et);
+            says = ap (λ (t : ℕ). (Some t)) (sym et);
             bytes = f ∙ ap (put (size (get_or r top_word 0 + b) x 1)) e ∙ ap (λ (t : ℕ). put (size (t + b) x 1) (put (size t b 1) w)) et
                 ∙ ap (λ (x : ℕ). put (size (t + b) x 1) (put (size t b 1) w)) z;
             rec = ap (λ (t : ℕ). set r top_word (t + b)) et ∙ ap (λ (r : List ℕ). set r top_word (t + b)) o.rec

@@ -1,6 +1,6 @@
 -- The sweep's loop follows the machine: what is left of step 5 from the start is what is left of it from here, on a heap with fewer unsorted chunks. One lemma
 -- for each answer of a turn. Assumes nothing.
-use Rattle.std.specs.Prelude.{◌≡◌, refl, Bool, ◌⊎◌, ℕ, zero, suc, ◌+◌, ◌-◌, ◌%◌, ◌≤◌, ◌<◌, eqb, leb, length, get_or}
+use Rattle.std.specs.Prelude.{◌≡◌, refl, Bool, ◌⊎◌, ℕ, zero, suc, ◌+◌, ◌-◌, ◌%◌, ◌≤◌, ◌<◌, eqb, leb, length, get_or, Option, Some, None}
 use Rattle.std.proofs.Common.{sym, ◌∙◌, subst, ⊎_elim, arith, length-append, get_or-set_same, get_or-set_other}
 use Rattle.std.proofs.Math.Path.{ap}
 use Rattle.std.proofs.Math.Bool.{true, false}
@@ -16,7 +16,7 @@ use Rattle.machine.specs.Writes.{Write, apply, Ran, heap_of, writes, giving, mor
 use Rattle.machine.specs.Primitives.{push_cache, take_cache, unlink, set_p, set_remainder}
 use Rattle.machine.specs.Grant.{room_for?, split, sort_in, lone?, split_lone, keep, turn_at, turn, swept, after_turn, sweep, step5}
 use Rattle.machine.specs.View.{up}
-use Rattle.machine.specs.declared.{Got.Got, Got.TheVariants.At, Got.TheVariants.Nothing, Turn.Turn}
+use Rattle.machine.specs.declared.{Turn.Turn}
 use Rattle.machine.specs.declared.Turn.TheVariants as T
 use Rattle.sound.specs.Relation.{Shape, Good}
 use Rattle.sound.specs.Edits.{size_32}
@@ -122,13 +122,13 @@ module _ (b : ℕ) (got : Bool) (h : Heap) where
   unfolding sweep
   sweep-turn n m e = ap (λ (n : ℕ). sweep n b got h) e
 
-after-granted : (s : Ran Turn) (kept sorted over : Heap → Ran Got) (c : ℕ) → answer s ≡ T.Granted c → after_turn s kept sorted over ≡ giving (At c) s
+after-granted : (s : Ran Turn) (kept sorted over : Heap → Ran (Option ℕ)) (c : ℕ) → answer s ≡ T.Granted c → after_turn s kept sorted over ≡ giving (Some c) s
 after-granted (ran g ws t) kept sorted over c e = ap (λ (t : Turn). after_turn (ran g ws t) kept sorted over) e
 
-after-cached : (s : Ran Turn) (kept sorted over : Heap → Ran Got) → answer s ≡ T.Cached → after_turn s kept sorted over ≡ more (writes s) (kept (heap_of s))
+after-cached : (s : Ran Turn) (kept sorted over : Heap → Ran (Option ℕ)) → answer s ≡ T.Cached → after_turn s kept sorted over ≡ more (writes s) (kept (heap_of s))
 after-cached (ran g ws t) kept sorted over e = ap (λ (t : Turn). after_turn (ran g ws t) kept sorted over) e
 
-after-binned : (s : Ran Turn) (kept sorted over : Heap → Ran Got) → answer s ≡ T.Binned → after_turn s kept sorted over ≡ more (writes s) (sorted (heap_of s))
+after-binned : (s : Ran Turn) (kept sorted over : Heap → Ran (Option ℕ)) → answer s ≡ T.Binned → after_turn s kept sorted over ≡ more (writes s) (sorted (heap_of s))
 after-binned (ran g ws t) kept sorted over e = ap (λ (t : Turn). after_turn (ran g ws t) kept sorted over) e
 
 -- ---- on the way
@@ -137,7 +137,7 @@ abbrev pub Full : ℕ → Bool → Heap → Type 0
 Full b got h = got ≡ true → (some? (cache h (cache_of b)) ≡ true) × (b ≤ 1040)
 
 -- from h₀ and w₀ on, some writes are done, and f is what is left of step 5
-pub record Reach (b : ℕ) (got : Bool) (f : Heap → Ran Got) (h₀ : Heap) (w₀ w r : List ℕ) : Type 0 where
+pub record Reach (b : ℕ) (got : Bool) (f : Heap → Ran (Option ℕ)) (h₀ : Heap) (w₀ w r : List ℕ) : Type 0 where
   pub heap : Heap
   pub done : List Write
   pub ok : Ok heap w r
@@ -147,7 +147,7 @@ pub record Reach (b : ℕ) (got : Bool) (f : Heap → Ran Got) (h₀ : Heap) (w�
   pub same : step5 b h₀ ≡ more done (f heap)
 
 -- all that is left: the sweep while it is going, and then its end alone
-abbrev pub sweep_on : ℕ → Bool → Bool → Heap → Ran Got
+abbrev pub sweep_on : ℕ → Bool → Bool → Heap → Ran (Option ℕ)
 sweep_on b true got h = sweep (length (bin h unsorted)) b got h
 sweep_on b false got h = swept b got h
 
@@ -175,8 +175,8 @@ reach-start b h w r o g = record {
 }
 
 -- a step that ends it
-pub reach-does : {b : ℕ} {got : Bool} {f : Heap → Ran Got} {h₀ : Heap} {w₀ w r : List ℕ} {g : Got} {v q : List ℕ} → Reach b got f h₀ w₀ w r → Does Got (Full b got) f w r g v q
-    → Gave Got (step5 b h₀) g w₀ v q
+pub reach-does : {b : ℕ} {got : Bool} {f : Heap → Ran (Option ℕ)} {h₀ : Heap} {w₀ w r : List ℕ} {g : Option ℕ} {v q : List ℕ} → Reach b got f h₀ w₀ w r → Does (Option ℕ) (Full b got) f w r g v q
+    → Gave (Option ℕ) (step5 b h₀) g w₀ v q
 reach-does {f = f} {g = g} R d = gave-by R.same (gave-more R.done (f R.heap) g R.bytes (d.does R.heap R.ok R.full))
 
 pub reach-over : {b : ℕ} {going got : Bool} {h₀ : Heap} {w₀ w r : List ℕ} → going ≡ false → Reach b got (sweep_on b going got) h₀ w₀ w r → Reach b got (swept b got) h₀ w₀ w r
@@ -244,16 +244,16 @@ module _ (b : ℕ) (b16 : b % 16 ≡ 0) (b32 : 32 ≤ b) (going got : Bool) (h�
   goes got h = ap (λ (o : Bool). sweep_on b o got h) n
 
   -- the turn's writes are done too
-  on : (s : Ran Got) → sweep_on b going got H ≡ more (writes (turn b H)) s → step5 b h₀ ≡ more (R.done ++ writes (turn b H)) s
+  on : (s : Ran (Option ℕ)) → sweep_on b going got H ≡ more (writes (turn b H)) s → step5 b h₀ ≡ more (R.done ++ writes (turn b H)) s
   on s e = R.same ∙ ap (more R.done) e ∙ more-more R.done (writes (turn b H)) s
 
-  pub way-granted : (c : ℕ) → t ≡ T.Granted c → Gave Got (step5 b h₀) (At c) w₀ v q
+  pub way-granted : (c : ℕ) → t ≡ T.Granted c → Gave (Option ℕ) (step5 b h₀) (Some c) w₀ v q
   way-granted c e =
       let f : L ≡ suc (L - 1) = suc-of L (λ z. omega (arith, z, now-fewer (T.Granted c) e)) in
       gave-by R.same
-      (gave-more R.done (sweep_on b going got H) (At c) R.bytes
+      (gave-more R.done (sweep_on b going got H) (Some c) R.bytes
       (gave-by (goes got H ∙ sweep-turn b got H L (L - 1) f ∙ after-granted (turn b H) _ _ _ c (now-gave.says ∙ e))
-      (gave-giving (turn b H) t (At c) now-gave)))
+      (gave-giving (turn b H) t (Some c) now-gave)))
 
   pub way-cached : t ≡ T.Cached → Reach b true (sweep_on b going true) h₀ w₀ v q
   way-cached e =
@@ -304,22 +304,22 @@ module _ (b : ℕ) (b16 : b % 16 ≡ 0) (b32 : 32 ≤ b) (going got : Bool) (h�
 
 -- ---- the end
 module _ (h : Heap) (w r : List ℕ) (b : ℕ) (got : Bool) (o : Ok h w r) (k : Full b got h) where
-  pub swept-none-gave : got ≡ false → Gave Got (swept b got h) Nothing w w r
+  pub swept-none-gave : got ≡ false → Gave (Option ℕ) (swept b got h) None w w r
   unfolding swept
-  swept-none-gave e = gave-by (ap (λ (t : Bool). swept b t h) e) (gave-none h Nothing w r o.rec)
+  swept-none-gave e = gave-by (ap (λ (t : Bool). swept b t h) e) (gave-none h None w r o.rec)
 
   module _ (e : got ≡ true) (i : ℕ) (ei : i ≡ cache_of b) where
     pub swept-some : some? (stack h i) ≡ true
     swept-some = ap (λ (i : ℕ). some? (stack h i)) ei ∙ (k e).0
 
-    module _ (c : ℕ) (v q : List ℕ) (d : Does Got (λ h. some? (stack h i) ≡ true) (take_cache i) w r (At c) v q) where
+    module _ (c : ℕ) (v q : List ℕ) (d : Does (Option ℕ) (λ h. some? (stack h i) ≡ true) (take_cache i) w r (Some c) v q) where
       pub swept-small : c + 32 ≤ 262144
       swept-small =
           let H = ok-head h w r o i swept-some in
-          let m : At (hd none64 (stack h i)) ≡ At c = (d.does h o swept-some).says in
+          let m : (Some (hd none64 (stack h i))) ≡ (Some c) = (d.does h o swept-some).says in
           let f : hd none64 (stack h i) ≡ c = cc in
           omega (arith, H.here.small, H.same)
 
-      pub swept-gave : Gave Got (swept b got h) (At c) w v q
+      pub swept-gave : Gave (Option ℕ) (swept b got h) (Some c) w v q
       unfolding swept
       swept-gave = gave-by (ap (λ (t : Bool). swept b t h) e ∙ ap (λ (i : ℕ). take_cache i h) (sym ei)) (d.does h o swept-some)

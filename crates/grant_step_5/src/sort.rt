@@ -11,7 +11,7 @@ ghost use Rattle.grant_step_5.specs.Newcomer.{Goes};
 use chunk_fields::{Link, fwd_at, link_of, size_at};
 use machine::Turn;
 use primitives::{cache_takes, link_in, push_cache, put_first};
-use sizes::{Chunk, LARGE, NONE64};
+use sizes::{Chunk, LARGE, NONE64, Size};
 
 // The neighbours that a newcomer gets in a bin; NONE64 where there is none.
 #[derive(Clone, Copy)]
@@ -60,12 +60,12 @@ pub fn sort_in(a: &mut [u8], r: &mut [u32], c: Chunk, z: u64)
 }
 
 // c, of size b, which no list has, is cached if its cache list has room, else granted.
-pub fn keep(a: &mut [u8], r: &mut [u32], c: Chunk, b: u64) -> Turn
-    requires { (32 ≤ b) × Has (λ h. Loose h c.0) (arena_words a.old) r.old }
-    ensures { Does Turn (λ h. Loose h c.0) (keep b c.0) (arena_words a.old) r.old result (arena_words a.new) r.new }
+pub fn keep(a: &mut [u8], r: &mut [u32], c: Chunk, b: Size) -> Turn
+    requires { Has (λ h. Loose h c.0) (arena_words a.old) r.old }
+    ensures { Does Turn (λ h. Loose h c.0) (keep b.bytes c.0) (arena_words a.old) r.old result (arena_words a.new) r.new }
 {
-    if cache_takes(r, b) {
-        push_cache(a, r, sizes::cache_list(b), c);
+    if cache_takes(r, b.bytes) {
+        push_cache(a, r, sizes::cache_list(b.bytes), c);
         return Turn::Cached;
     }
     Turn::Granted(c.0 as u32)

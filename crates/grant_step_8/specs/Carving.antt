@@ -1,6 +1,6 @@
 -- `split`, `carve` and `step8`, as the code does them, follow the machine. A split's middle is named (Cut): the chunk is cut and the rest's size noted, and the
 -- rest is not yet in unsorted. Assumes nothing.
-use Rattle.std.specs.Prelude.{◌≡◌, refl, Bool, List, [], ◌∷◌, ◌++◌, ◌⊎◌, ℕ, ◌+◌, ◌-◌, ◌%◌, ◌≤◌, ◌<◌, length, set}
+use Rattle.std.specs.Prelude.{◌≡◌, refl, Bool, List, [], ◌∷◌, ◌++◌, ◌⊎◌, ℕ, ◌+◌, ◌-◌, ◌%◌, ◌≤◌, ◌<◌, length, set, Option, Some}
 use Rattle.std.proofs.Common.{sym, ap, ◌∙◌, subst, append_assoc, inl, inr, ⊎_elim, arith}
 use Rattle.std.proofs.Math.Bool.{true, false}
 use Rattle.std.proofs.Math.Dec.{ltb}
@@ -16,7 +16,6 @@ use Rattle.machine.specs.Writes.{Write, size, note, put, apply, heap_of, does, m
 use Rattle.machine.specs.Primitives.{put_first, unlink, set_p, set_note, set_remainder}
 use Rattle.machine.specs.Grant.{split, carve, step8}
 use Rattle.machine.specs.View.{size_at}
-use Rattle.machine.specs.declared.{Got.Got, Got.TheVariants.At}
 use Rattle.sound.specs.Relation.{tiled, Mem, Shape, Loose, Good}
 use Rattle.sound.specs.Tiles.{tiled-split, end-append, starts-append, starts-once, none_out, Place, place, zero_or, lt-or-le}
 use Rattle.sound.specs.Frames.{starts-all}
@@ -241,7 +240,7 @@ module _ (h : Heap) (w r : List ℕ) (j c z b : ℕ) (o : Ok h w r) (g : Good h)
     pub unlinked-has : Has (λ g. Taken g c z) v q
     unlinked-has = record { heap = heap_of (unlink j c h); ok = unlinked-ok; holds = unlinked-taken }
 
-    pub step8-gave : (new? : Bool) (v' q' : List ℕ) → Does (Unit {0}) (λ g. Taken g c z) (carve c b new?) v q tt v' q' → Gave Got (step8 j c b new? h) (At c) w v' q'
+    pub step8-gave : (new? : Bool) (v' q' : List ℕ) → Does (Unit {0}) (λ g. Taken g c z) (carve c b new?) v q tt v' q' → Gave (Option ℕ) (step8 j c b new? h) (Some c) w v' q'
     unfolding step8
     step8-gave new? v' q' k =
-        gave-giving (unlink j c h >>= (λ g. carve c b new? g)) tt (At c) (gave_then (unlink j c h) (λ g. carve c b new? g) tt tt m (k.does (heap_of (unlink j c h)) unlinked-ok unlinked-taken))
+        gave-giving (unlink j c h >>= (λ g. carve c b new? g)) tt (Some c) (gave_then (unlink j c h) (λ g. carve c b new? g) tt tt m (k.does (heap_of (unlink j c h)) unlinked-ok unlinked-taken))

@@ -1,6 +1,6 @@
 -- Step 2's moves, as the code does them, follow the machine: a head that is taken is loose and of size b, so the cache takes it, and what is left of the list
 -- is what the machine goes on with. Assumes nothing.
-use Rattle.std.specs.Prelude.{◌≡◌, ℕ, suc, ◌+◌, ◌-◌, ◌%◌, ◌≤◌, ◌<◌, length, get_or}
+use Rattle.std.specs.Prelude.{◌≡◌, ℕ, suc, ◌+◌, ◌-◌, ◌%◌, ◌≤◌, ◌<◌, length, get_or, Option, Some}
 use Rattle.std.proofs.Math.Path.{refl, ap}
 use Rattle.std.proofs.Common.{sym, ◌∙◌, arith, get_or-set_same, get_or-set_other}
 use Rattle.std.proofs.Math.Bool.{true, false}
@@ -17,7 +17,6 @@ use Rattle.machine.specs.Heap.{Heap, stack, fast_at, size_of}
 use Rattle.machine.specs.Writes.{Ran, does, heap_of, ◌>>=◌}
 use Rattle.machine.specs.Primitives.{pop, push_cache}
 use Rattle.machine.specs.Grant.{move_fast}
-use Rattle.machine.specs.declared.{Got.Got, Got.TheVariants.At}
 use Rattle.sound.specs.Relation.{Shape, Loose, stack_size, Good}
 use Rattle.sound.specs.Ends.{Ends}
 use Rattle.sound.specs.Stacks.{pop-ends, push_cache-ends}
@@ -76,7 +75,7 @@ module _ (b f : ℕ) (b16 : b % 16 ≡ 0) (b32 : 32 ≤ b) (le : b ≤ 128) (ef 
   f10 : f < 10
   f10 = omega (arith, fast_of-bound b le)
 
-  module _ (h : Heap) (w r : List ℕ) (o : Ok h w r) (g : Good h) (so : some? (stack h (fast_at f)) ≡ true) (c : ℕ) (q : List ℕ) (m : Gave Got (pop (fast_at f) h) (At c) w w q) where
+  module _ (h : Heap) (w r : List ℕ) (o : Ok h w r) (g : Good h) (so : some? (stack h (fast_at f)) ≡ true) (c : ℕ) (q : List ℕ) (m : Gave (Option ℕ) (pop (fast_at f) h) (Some c) w w q) where
     first : stack h (fast_at f) ≡ c ∷ tl (stack h (fast_at f))
     first = some-cons (stack h (fast_at f)) c so (at_same m.says)
 
@@ -87,7 +86,7 @@ module _ (b f : ℕ) (b16 : b % 16 ≡ 0) (b32 : 32 ≤ b) (le : b ≤ 128) (ef 
     popped = pop-ends h w (fast_at f) (omega (arith, f10)) g o.mem
 
     pub taken-ok : Ok (heap_of (pop (fast_at f) h)) w q
-    taken-ok = gave-ok (pop (fast_at f) h) (At c) popped.now.shape popped.mem m
+    taken-ok = gave-ok (pop (fast_at f) h) (Some c) popped.now.shape popped.mem m
 
     pub taken-good : Good (heap_of (pop (fast_at f) h))
     taken-good = popped.now
@@ -116,7 +115,7 @@ module _ (b f : ℕ) (b16 : b % 16 ≡ 0) (b32 : 32 ≤ b) (le : b ≤ 128) (ef 
 
       module _ (v p : List ℕ) (d : Does (Unit {0}) (λ h. Loose h c × (length (stack h k) < 7)) (push_cache k c) w q tt v p) where
         moved-gave : Gave (Unit {0}) (moved f k c h) tt w v p
-        moved-gave = gave_then (pop (fast_at f) h) (λ n. push_cache k c n) (At c) tt m (d.does (heap_of (pop (fast_at f) h)) taken-ok (loose, room))
+        moved-gave = gave_then (pop (fast_at f) h) (λ n. push_cache k c n) (Some c) tt m (d.does (heap_of (pop (fast_at f) h)) taken-ok (loose, room))
 
         moved_ends : Ends (moved f k c h) w Good
         moved_ends =
@@ -159,7 +158,7 @@ module _ (b f : ℕ) (b16 : b % 16 ≡ 0) (b32 : 32 ≤ b) (le : b ≤ 128) (ef 
       pub heads-has : Has Good w₀ r₀ → Has (λ h. some? (stack h (fast_at f)) ≡ true) w r
       heads-has H = let R = W.reach H.heap H.ok H.holds in record { heap = R.heap; ok = R.ok; holds = some R.heap R.ok }
 
-      module _ (c : ℕ) (q : List ℕ) (d : Does Got (λ h. some? (stack h (fast_at f)) ≡ true) (pop (fast_at f)) w r (At c) w q) (k : ℕ) (ek : k ≡ cache_of b) (lt : get_or r (cache_count k) 0 < cache_room) where
+      module _ (c : ℕ) (q : List ℕ) (d : Does (Option ℕ) (λ h. some? (stack h (fast_at f)) ≡ true) (pop (fast_at f)) w r (Some c) w q) (k : ℕ) (ek : k ≡ cache_of b) (lt : get_or r (cache_count k) 0 < cache_room) where
         pub heads-push : Has Good w₀ r₀ → Has (λ h. Loose h c × (length (stack h k) < 7)) w q
         heads-push H =
             let R = W.reach H.heap H.ok H.holds in

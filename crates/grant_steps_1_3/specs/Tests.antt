@@ -1,13 +1,12 @@
 -- What the last that the record has of a bin tells of the bin: none32 is that of an empty one, any other that of one with a chunk. By the chunks' offsets,
 -- which are small. Assumes nothing.
-use Rattle.std.specs.Prelude.{◌≡◌, refl, true, List, [], ◌∷◌, ℕ, ◌≤◌, get_or}
+use Rattle.std.specs.Prelude.{◌≡◌, refl, true, List, [], ◌∷◌, ℕ, ◌≤◌, get_or, Option, Some}
 use Rattle.std.proofs.Common.{sym, ◌∙◌, arith}
 use Rattle.sizes.specs.Limits.{none64, none32}
 use Rattle.sizes.specs.Layout.{bin_last}
 use Rattle.machine.specs.Lists.{hd, lst, some?, cnt}
 use Rattle.machine.specs.Count.{cnt-here}
 use Rattle.machine.specs.Heap.{Heap, bin}
-use Rattle.machine.specs.declared.{Got.Got, Got.TheVariants.At}
 use Rattle.sound.specs.Lists.{lst-in}
 use Rattle.primitives.specs.Follow.{Ok}
 use Rattle.primitives.specs.Chunks.{Chunks, bin-chunk}
@@ -21,7 +20,7 @@ lst-empty : (w l : List ℕ) → Chunks w l → lst none32 l ≡ none32 → l �
 lst-empty w [] k e = refl
 lst-empty w (x ∷ l) k e = absurd (omega (arith, (k (lst x l) (lst-in x l)).small))
 
-pub at_same : {x y : ℕ} → ◌≡◌ {A = Got} (At x) (At y) → x ≡ y
+pub at_same : {x y : ℕ} → ◌≡◌ {A = Option ℕ} (Some x) (Some y) → x ≡ y
 at_same e = cc
 
 pub some-head : (l : List ℕ) → some? l ≡ true → 1 ≤ cnt (hd none64 l) l

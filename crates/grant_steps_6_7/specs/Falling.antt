@@ -1,13 +1,12 @@
 -- Lists that fall in size: the last chunk of at least b bytes is one of the smallest such, its equals stand together before it, and so the machine's best
 -- fit is the second of them. By induction along the list. Assumes nothing.
-use Rattle.std.specs.Prelude.{◌≡◌, refl, Bool, true, false, List, [], ◌∷◌, ◌++◌, ◌⊎◌, ℕ, ◌+◌, ◌≤◌, ◌<◌, min, eqb, ltb}
+use Rattle.std.specs.Prelude.{◌≡◌, refl, Bool, true, false, List, [], ◌∷◌, ◌++◌, ◌⊎◌, ℕ, ◌+◌, ◌≤◌, ◌<◌, min, eqb, ltb, Some, None}
 use Rattle.std.proofs.Common.{sym, ap, ◌∙◌, subst, append-nil, inl, inr, ⊎_elim, not-suc-le-zero, arith, eq-eqb, ne_eqb, eqb-true, lt-ltb, ltb-true, ltb-false}
 use Rattle.std.proofs.lemmas.Bool.{eqb-false}
 use Rattle.sizes.specs.Limits.{none64}
 use Rattle.machine.specs.Lists.{lst, cnt}
 use Rattle.machine.specs.Count.{eq?, ind-other, cnt-append, cnt-here, cnt-there}
 use Rattle.machine.specs.Grant.{least_fit, equals, second, fit}
-use Rattle.machine.specs.declared.{Got.TheVariants.At, Got.TheVariants.Nothing}
 use Rattle.sound.specs.Relation.{falls}
 use Rattle.sound.specs.Tiles.{zero_or}
 use Rattle.sound.specs.Lists.{lst-in}
@@ -62,8 +61,8 @@ module _ (sz : ℕ → ℕ) (b : ℕ) where
   least_fit-none [] k = refl
   least_fit-none (x ∷ l) k = least_fit-skip x l (k x (cnt-here x l)) ∙ least_fit-none l (λ y i. k y (cnt-there y x l i))
 
-  pub fit_none : (l : List ℕ) → ((y : ℕ) → 1 ≤ cnt y l → sz y < b) → fit sz b l ≡ Nothing
-  fit_none l k = ap (λ (n : ℕ). elim (eqb n 0) [ true ↦ Nothing | false ↦ second (equals sz n l) ]) (least_fit-none l k)
+  pub fit_none : (l : List ℕ) → ((y : ℕ) → 1 ≤ cnt y l → sz y < b) → fit sz b l ≡ None
+  fit_none l k = ap (λ (n : ℕ). elim (eqb n 0) [ true ↦ None | false ↦ second (equals sz n l) ]) (least_fit-none l k)
 
 -- ---- the chunks of size z, in parts
 module _ (sz : ℕ → ℕ) (z : ℕ) where
@@ -85,7 +84,7 @@ module _ (sz : ℕ → ℕ) (z : ℕ) where
   equals-first [] l k = refl
   equals-first (x ∷ a) l k = equals-same x (a ++ l) (k x (cnt-here x a)) ∙ ap (λ (m : List ℕ). x ∷ m) (equals-first a l (λ y i. k y (cnt-there y x a i)))
 
-second-has : (l : List ℕ) (d : ℕ) → second l ≡ At d → 1 ≤ cnt d l
+second-has : (l : List ℕ) (d : ℕ) → second l ≡ Some d → 1 ≤ cnt d l
 second-has [] d e = absurd (let z : ◌≡◌ {A = ℕ} 0 1 = cc in omega arith)
 second-has (x ∷ []) d e = let q : x ≡ d = cc in rw q (cnt-here d [])
 second-has (x ∷ y ∷ l) d e = let q : y ≡ d = cc in rw q (cnt-there d x (d ∷ l) (cnt-here d l))
@@ -109,13 +108,13 @@ falls-above sz z (x ∷ a) k low stop y i = ⊎_elim
     omega (arith, falls-last sz x a k y i))
     stop
 
-fit_at : (sz : ℕ → ℕ) (b z d : ℕ) (l e : List ℕ) → least_fit sz b l ≡ z → (z ≡ 0 → ⊥) → equals sz z l ≡ e → second e ≡ At d → fit sz b l ≡ At d
+fit_at : (sz : ℕ → ℕ) (b z d : ℕ) (l e : List ℕ) → least_fit sz b l ≡ z → (z ≡ 0 → ⊥) → equals sz z l ≡ e → second e ≡ Some d → fit sz b l ≡ Some d
 fit_at sz b z d l e q ne k is =
-    ap (λ (n : ℕ). elim (eqb n 0) [ true ↦ Nothing | false ↦ second (equals sz n l) ]) q ∙ rw (ne_eqb z 0 ne) (ap second k ∙ is)
+    ap (λ (n : ℕ). elim (eqb n 0) [ true ↦ None | false ↦ second (equals sz n l) ]) q ∙ rw (ne_eqb z 0 ne) (ap second k ∙ is)
 
 -- ---- a falling list in three parts: larger than z, of size z, smaller than b
 pub fit-second : (sz : ℕ → ℕ) (b z d : ℕ) (l a e y : List ℕ) → falls sz l → l ≡ a ++ (e ++ y) → ((x : ℕ) → 1 ≤ cnt x e → sz x ≡ z) → ((x : ℕ) → 1 ≤ cnt x y → sz x < b)
-    → 1 ≤ b → b ≤ z → (a ≡ []) ⊎ (sz (lst none64 a) ≡ z → ⊥) → second e ≡ At d → fit sz b l ≡ At d
+    → 1 ≤ b → b ≤ z → (a ≡ []) ⊎ (sz (lst none64 a) ≡ z → ⊥) → second e ≡ Some d → fit sz b l ≡ Some d
 fit-second sz b z d l a e y k q same small b1 bz stop is =
     let de : 1 ≤ cnt d e = second-has e d is in
     let F = falls-split sz a (e ++ y) (subst (falls sz) q k) in

@@ -1,12 +1,11 @@
 -- What the searches of steps 6 and 7 find, and where their walks are. Definitions only.
-use Rattle.std.specs.Prelude.{◌≡◌, Bool, true, false, List, [], ◌∷◌, ◌++◌, ◌⊎◌, ℕ, zero, suc, ◌-◌, ◌≤◌, ◌<◌, eqb, length, get_or}
+use Rattle.std.specs.Prelude.{◌≡◌, Bool, true, false, List, [], ◌∷◌, ◌++◌, ◌⊎◌, ℕ, zero, suc, ◌-◌, ◌≤◌, ◌<◌, eqb, length, get_or, Option, Some}
 use Rattle.sizes.specs.Limits.{none64, last_bin}
 use Rattle.sizes.specs.Layout.{back_word}
 use Rattle.machine.specs.Lists.{lst, cnt}
 use Rattle.machine.specs.Heap.{Heap, bin, size_of}
 use Rattle.machine.specs.Grant.{second, first_bin}
 use Rattle.machine.specs.View.{size_at}
-use Rattle.machine.specs.declared.{Got.Got, Got.TheVariants.At}
 use Rattle.sound.specs.Relation.{Mem, Shape}
 use Rattle.primitives.specs.Follow.{Ok}
 
@@ -51,7 +50,7 @@ pub record Run (sz : ℕ → ℕ) (z : ℕ) (l : List ℕ) (d : ℕ) : Type 0 wh
   pub parts : l ≡ front ++ eqs
   pub same : (y : ℕ) → 1 ≤ cnt y eqs → sz y ≡ z
   pub stop : (front ≡ []) ⊎ (sz (lst none64 front) ≡ z → ⊥)
-  pub is : second eqs ≡ At d
+  pub is : second eqs ≡ Some d
 
 -- the walk to it: the chunk before first is the next to be looked at
 pub record Running (sz : ℕ → ℕ) (z : ℕ) (l : List ℕ) (s f p : ℕ) : Type 0 where
@@ -76,6 +75,6 @@ unfoldable pub left : List ℕ → ℕ → ℕ
 left w c = length (back_from (length w) w c)
 
 -- ---- g tells the first non-empty bin above j
-pub record FirstBin (r : List ℕ) (j : ℕ) (g : Got) : Type 0 where
-  pub most : (i : ℕ) → g ≡ At i → i ≤ last_bin
+pub record FirstBin (r : List ℕ) (j : ℕ) (g : Option ℕ) : Type 0 where
+  pub most : (i : ℕ) → g ≡ Some i → i ≤ last_bin
   pub is : (h : Heap) (w : List ℕ) → Ok h w r → first_bin (last_bin - j) (suc j) h ≡ g

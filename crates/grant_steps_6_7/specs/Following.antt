@@ -1,5 +1,5 @@
 -- The searches as the code does them: each way through a turn of a walk, what a walk ends with, and that steps 6 and 7 follow the machine. Assumes nothing.
-use Rattle.std.specs.Prelude.{◌≡◌, refl, Bool, true, false, List, [], ◌∷◌, ◌++◌, ◌⊎◌, ℕ, suc, ◌+◌, ◌-◌, ◌≤◌, ◌<◌, eqb, ltb, length, get_or}
+use Rattle.std.specs.Prelude.{◌≡◌, refl, Bool, true, false, List, [], ◌∷◌, ◌++◌, ◌⊎◌, ℕ, suc, ◌+◌, ◌-◌, ◌≤◌, ◌<◌, eqb, ltb, length, get_or, Option, Some, None}
 use Rattle.std.proofs.Common.{sym, ◌∙◌, subst, append_assoc, append-nil, inl, inr, ⊎_elim, not-suc-le-zero, arith, eq-eqb, ne_eqb, eqb-true, le-leb}
 use Rattle.std.proofs.Math.Path.{ap}
 use Rattle.std.proofs.lemmas.Bool.{eqb-false, lt-leb}
@@ -14,7 +14,6 @@ use Rattle.machine.specs.Heap.{Heap, bin, size_of}
 use Rattle.machine.specs.Writes.{nothing}
 use Rattle.machine.specs.Grant.{fit, step8, step6, first_bin, step7}
 use Rattle.machine.specs.View.{size_at, up}
-use Rattle.machine.specs.declared.{Got.Got, Got.TheVariants.At, Got.TheVariants.Nothing}
 use Rattle.sound.specs.Relation.{links, Mem, Shape, Good}
 use Rattle.sound.specs.Tiles.{lt-or-le}
 use Rattle.sound.specs.Lists.{lst-in, links-split}
@@ -208,12 +207,12 @@ step6-small : (b : ℕ) (h : Heap) → b < 1024 → step6 b h ≡ nothing h
 unfolding step6
 step6-small b h l = rw (lt-leb large b l, step6)
 
-step6-is : (b : ℕ) (h : Heap) → 1024 ≤ b → step6 b h ≡ elim (fit (λ x. size_of h x) b (bin h (bin_of b))) [ At c ↦ step8 (bin_of b) c b false h | Nothing ↦ nothing h ]
+step6-is : (b : ℕ) (h : Heap) → 1024 ≤ b → step6 b h ≡ elim (fit (λ x. size_of h x) b (bin h (bin_of b))) [ Some c ↦ step8 (bin_of b) c b false h | None ↦ nothing h ]
 unfolding step6
 step6-is b h l = rw (le-leb large b l, step6)
 
-pub small-gave : (h : Heap) (w r : List ℕ) (b : ℕ) → Ok h w r → b < 1024 → Gave Got (step6 b h) Nothing w w r
-small-gave h w r b o l = gave-by (step6-small b h l) (gave-none h Nothing w r o.rec)
+pub small-gave : (h : Heap) (w r : List ℕ) (b : ℕ) → Ok h w r → b < 1024 → Gave (Option ℕ) (step6 b h) None w w r
+small-gave h w r b o l = gave-by (step6-small b h l) (gave-none h None w r o.rec)
 
 -- the search in the own bin, whose number j was computed
 pub own-fit : (h : Heap) (j b c : ℕ) → j ≡ bin_of b → LastFit h j b c → LastFit h (bin_of b) b c
@@ -223,13 +222,13 @@ module _ (h : Heap) (w r : List ℕ) (b c : ℕ) (o : Ok h w r) (large : 1024 �
   abbrev own : List ℕ
   own = bin h (bin_of b)
 
-  pub none-gave : c ≡ none64 → Gave Got (step6 b h) Nothing w w r
+  pub none-gave : c ≡ none64 → Gave (Option ℕ) (step6 b h) None w w r
   none-gave e = go L.back.xs L.back.parts L.back.at
     where
-      go : (xs : List ℕ) → own ≡ xs ++ L.back.ys → c ≡ lst none64 xs → Gave Got (step6 b h) Nothing w w r
+      go : (xs : List ℕ) → own ≡ xs ++ L.back.ys → c ≡ lst none64 xs → Gave (Option ℕ) (step6 b h) None w w r
       go [] p q =
-          let no : fit (λ x. size_of h x) b own ≡ Nothing = fit_none (λ x. size_of h x) b own (λ y i. L.back.small y (subst (λ (l : List ℕ). 1 ≤ cnt y l) p i)) in
-          gave-by (step6-is b h large ∙ ap (λ (x : Got). elim x [ At c ↦ step8 (bin_of b) c b false h | Nothing ↦ nothing h ]) no) (gave-none h Nothing w r o.rec)
+          let no : fit (λ x. size_of h x) b own ≡ None = fit_none (λ x. size_of h x) b own (λ y i. L.back.small y (subst (λ (l : List ℕ). 1 ≤ cnt y l) p i)) in
+          gave-by (step6-is b h large ∙ ap (λ (x : Option ℕ). elim x [ Some c ↦ step8 (bin_of b) c b false h | None ↦ nothing h ]) no) (gave-none h None w r o.rec)
       go (x ∷ xs) p q =
           let k = bin-chunk h w o.shape o.mem (bin_of b) (lst x xs) (omega (arith, lst-in x xs, ap (cnt (lst x xs)) p, cnt-append (lst x xs) (x ∷ xs) L.back.ys)) in
           absurd (omega (arith, e, q, k.small))
@@ -245,7 +244,7 @@ module _ (h : Heap) (w r : List ℕ) (b c : ℕ) (o : Ok h w r) (large : 1024 �
     found-standing = record { heap = h; shape = o.shape; mem = o.mem; holds = record { bin-no = bin_of b; xs = found-tip.rest; ys = L.back.ys; stands = found-stands } }
 
     module _ (g : Good h) (d : ℕ) (R : SecondEqual w c d) where
-      found-second : fit (λ x. size_of h x) b own ≡ At d
+      found-second : fit (λ x. size_of h x) b own ≡ Some d
       found-second =
           let xs : List ℕ = found-tip.rest in
           let ys : List ℕ = L.back.ys in
@@ -260,11 +259,11 @@ module _ (h : Heap) (w r : List ℕ) (b c : ℕ) (o : Ok h w r) (large : 1024 �
       pub found-has : (j : ℕ) → j ≡ bin_of b → Has (λ h. Good h × Fit h j d b) w r
       found-has j ej = record { heap = h; ok = o; holds = (g, subst (λ (j : ℕ). Fit h j d b) (sym ej) found-fit) }
 
-      pub found-gave : (j : ℕ) → j ≡ bin_of b → (a : Got) (v q : List ℕ) → Does Got (λ h. Good h × Fit h j d b) (step8 j d b false) w r a v q → Gave Got (step6 b h) a w v q
+      pub found-gave : (j : ℕ) → j ≡ bin_of b → (a : Option ℕ) (v q : List ℕ) → Does (Option ℕ) (λ h. Good h × Fit h j d b) (step8 j d b false) w r a v q → Gave (Option ℕ) (step6 b h) a w v q
       found-gave j ej a v q D =
-          let m : Gave Got (step8 (bin_of b) d b false h) a w v q =
-          (subst (λ (j : ℕ). Does Got (λ h. Good h × Fit h j d b) (step8 j d b false) w r a v q) ej D).does h o (g, found-fit) in
-          gave-by (step6-is b h large ∙ ap (λ (x : Got). elim x [ At c ↦ step8 (bin_of b) c b false h | Nothing ↦ nothing h ]) found-second) m
+          let m : Gave (Option ℕ) (step8 (bin_of b) d b false h) a w v q =
+          (subst (λ (j : ℕ). Does (Option ℕ) (λ h. Good h × Fit h j d b) (step8 j d b false) w r a v q) ej D).does h o (g, found-fit) in
+          gave-by (step6-is b h large ∙ ap (λ (x : Option ℕ). elim x [ Some c ↦ step8 (bin_of b) c b false h | None ↦ nothing h ]) found-second) m
 
 -- ---- the first bin above, by the ends that the record has
 module _ (h : Heap) (w r : List ℕ) (o : Ok h w r) (i : ℕ) (low : 1 ≤ i) (high : i ≤ 126) where
@@ -282,7 +281,7 @@ module _ (h : Heap) (w r : List ℕ) (o : Ok h w r) (i : ℕ) (low : 1 ≤ i) (h
       go [] q = absurd (ne q)
       go (x ∷ l) q = refl
 
-first_bin-here : (n i : ℕ) (h : Heap) → some? (bin h i) ≡ true → first_bin (suc n) i h ≡ At i
+first_bin-here : (n i : ℕ) (h : Heap) → some? (bin h i) ≡ true → first_bin (suc n) i h ≡ Some i
 first_bin-here n i h e = rw (e, first_bin)
 
 first_bin-next : (n i : ℕ) (h : Heap) → some? (bin h i) ≡ false → first_bin (suc n) i h ≡ first_bin n (suc i) h
@@ -291,7 +290,7 @@ first_bin-next n i h e = rw (e, first_bin)
 first_bin-at : (n m i j : ℕ) (h : Heap) → n ≡ m → i ≡ j → first_bin n i h ≡ first_bin m j h
 first_bin-at n m i j h e q = cc
 
-at_same : {x y : ℕ} → ◌≡◌ {A = Got} (At x) (At y) → x ≡ y
+at_same : {x y : ℕ} → ◌≡◌ {A = Option ℕ} (Some x) (Some y) → x ≡ y
 at_same e = cc
 
 -- from bin i on the search goes as from the start
@@ -303,7 +302,7 @@ module _ (r : List ℕ) (j : ℕ) where
   seek-start i e h w o = first_bin-at (127 - i) (last_bin - j) i (suc j) h (omega arith) (omega arith)
 
   module _ (i : ℕ) (low : 1 ≤ i) (high : i ≤ 126) (S : Seeking r j i) where
-    pub seek_found : (at : ℕ) → at ≡ bin_last i → (get_or r at 0 ≡ none32 → ⊥) → FirstBin r j (At i)
+    pub seek_found : (at : ℕ) → at ≡ bin_last i → (get_or r at 0 ≡ none32 → ⊥) → FirstBin r j (Some i)
     seek_found at e ne = record {
       most = λ k f. subst (λ (n : ℕ). n ≤ 126) (at_same f) high;
       is = λ h w o. sym (S h w o) ∙ first_bin-at (127 - i) (suc (126 - i)) i i h (omega arith) refl
@@ -315,22 +314,22 @@ module _ (r : List ℕ) (j : ℕ) where
         first_bin-at (127 - (i + 1)) (126 - i) (i + 1) (suc i) h (omega arith) (omega arith) ∙ sym (first_bin-next (126 - i) i h (last_none h w r o i low high (ap (λ (n : ℕ). get_or r n 0) (sym q) ∙ e)))
         ∙ first_bin-at (suc (126 - i)) (127 - i) i i h (omega arith) refl ∙ S h w o
 
-  pub seek-end : (i : ℕ) → 127 ≤ i → Seeking r j i → FirstBin r j Nothing
+  pub seek-end : (i : ℕ) → 127 ≤ i → Seeking r j i → FirstBin r j None
   seek-end i l S = record { most = λ k f. got-absurd (sym f); is = λ h w o. sym (S h w o) ∙ first_bin-at (127 - i) 0 i i h (omega arith) refl }
 
 -- ---- step 7
-pub own_first : (r : List ℕ) (j b : ℕ) (g : Got) → j ≡ bin_of b → FirstBin r j g → FirstBin r (bin_of b) g
+pub own_first : (r : List ℕ) (j b : ℕ) (g : Option ℕ) → j ≡ bin_of b → FirstBin r j g → FirstBin r (bin_of b) g
 own_first r j b g e B = subst (λ (j : ℕ). FirstBin r j g) e B
 
-module _ (h : Heap) (w r : List ℕ) (b : ℕ) (x : Got) (o : Ok h w r) (B : FirstBin r (bin_of b) x) where
-  step7-is : (y : Got) → x ≡ y → step7 b h ≡ elim y [ At j ↦ step8 j (lst none64 (bin h j)) b (ltb b 1024) h | Nothing ↦ nothing h ]
+module _ (h : Heap) (w r : List ℕ) (b : ℕ) (x : Option ℕ) (o : Ok h w r) (B : FirstBin r (bin_of b) x) where
+  step7-is : (y : Option ℕ) → x ≡ y → step7 b h ≡ elim y [ Some j ↦ step8 j (lst none64 (bin h j)) b (ltb b 1024) h | None ↦ nothing h ]
   unfolding step7
-  step7-is y e = ap (λ (x : Got). elim x [ At j ↦ step8 j (lst none64 (bin h j)) b (ltb b large) h | Nothing ↦ nothing h ]) (B.is h w o ∙ e)
+  step7-is y e = ap (λ (x : Option ℕ). elim x [ Some j ↦ step8 j (lst none64 (bin h j)) b (ltb b large) h | None ↦ nothing h ]) (B.is h w o ∙ e)
 
-  pub above-none : x ≡ Nothing → Gave Got (step7 b h) Nothing w w r
-  above-none e = gave-by (step7-is Nothing e) (gave-none h Nothing w r o.rec)
+  pub above-none : x ≡ None → Gave (Option ℕ) (step7 b h) None w w r
+  above-none e = gave-by (step7-is None e) (gave-none h None w r o.rec)
 
-  module _ (i : ℕ) (e : x ≡ At i) (g : Good h) (b32 : 32 ≤ b) (at : ℕ) (q : at ≡ bin_last i) where
+  module _ (i : ℕ) (e : x ≡ Some i) (g : Good h) (b32 : 32 ≤ b) (at : ℕ) (q : at ≡ bin_last i) where
     above-has : (some? (bin h i) ≡ true) × (suc (bin_of b) ≤ i)
     above-has = first_bin-has (last_bin - bin_of b) (suc (bin_of b)) h i (B.is h w o ∙ e)
 
@@ -348,8 +347,8 @@ module _ (h : Heap) (w r : List ℕ) (b : ℕ) (x : Got) (o : Ok h w r) (B : Fir
         let so : bin_of (size_of h c) ≡ i = g.homes.sorted i c (omega (arith, above-has.1, (bin_of-bounds b b32).0)) mc in
         record { here = mc; enough = ⊎_elim (λ l. absurd (omega (arith, so, above-has.1, bin-monotone (size_of h c) b (omega (arith, l))))) (λ l. l) (lt-or-le (size_of h c) b) })
 
-    pub above-gave : (new? : Bool) → new? ≡ ltb b 1024 → (a : Got) (v u : List ℕ) → Does Got (λ h. Good h × Fit h i (get_or r at 0) b) (step8 i (get_or r at 0) b new?) w r a v u
-        → Gave Got (step7 b h) a w v u
+    pub above-gave : (new? : Bool) → new? ≡ ltb b 1024 → (a : Option ℕ) (v u : List ℕ) → Does (Option ℕ) (λ h. Good h × Fit h i (get_or r at 0) b) (step8 i (get_or r at 0) b new?) w r a v u
+        → Gave (Option ℕ) (step7 b h) a w v u
     above-gave new? n a v u D =
-        let m : Gave Got (step8 i (get_or r at 0) b (ltb b 1024) h) a w v u = subst (λ (t : Bool). Gave Got (step8 i (get_or r at 0) b t h) a w v u) n (D.does h o (g, above_fit)) in
-        gave-by (step7-is (At i) e) (subst (λ (c : ℕ). Gave Got (step8 i c b (ltb b 1024) h) a w v u) above_word m)
+        let m : Gave (Option ℕ) (step8 i (get_or r at 0) b (ltb b 1024) h) a w v u = subst (λ (t : Bool). Gave (Option ℕ) (step8 i (get_or r at 0) b t h) a w v u) n (D.does h o (g, above_fit)) in
+        gave-by (step7-is (Some i) e) (subst (λ (c : ℕ). Gave (Option ℕ) (step8 i c b (ltb b 1024) h) a w v u) above_word m)

@@ -1,9 +1,8 @@
 // Step 6 of grant: the smallest chunk of b's own large bin that is at least b, the second of its equals.
-ghost use Rattle.std.specs.Prelude.{◌≡◌, ◌%◌, ◌≤◌, ◌<◌, length};
+ghost use Rattle.std.specs.Prelude.{◌≡◌, ◌≤◌, length, Option, ℕ};
 ghost use Rattle.le.specs.Arena.{arena_words};
 ghost use Rattle.machine.specs.Heap.{Heap};
 ghost use Rattle.machine.specs.Grant.{step6};
-ghost use Rattle.machine.specs.declared.{Got.Got};
 ghost use Rattle.sound.specs.Relation.{Good};
 ghost use Rattle.primitives.specs.Follow.{Ok, Has, Does};
 ghost use Rattle.primitives.specs.Ends.{Leads};
@@ -11,17 +10,16 @@ ghost use Rattle.grant_steps_6_7.specs.Finds.{LastFit, equal_at, Spelled, Standi
 
 use chunk_fields::{Link, back_at, link_of, size_at};
 use grant_step_8::{Rest, step8};
-use machine::Got;
-use sizes::{Chunk, LARGE, NONE64};
+use sizes::{Chunk, LARGE, NONE64, Size};
 
 // The last chunk of bin j of at least b bytes, none where there is none: a large bin falls, so it is one of the smallest such.
-fn least_fit(a: &[u8], r: &[u32], j: usize, b: u64) -> Link
+fn least_fit(a: &[u8], r: &[u32], j: usize, b: Size) -> Link
     requires { (1 ≤ j) × (j ≤ 126) × Has (λ h. Unit {0}) (arena_words a.now) r.now }
-    ensures { (h : Heap) → Ok h (arena_words a.now) r.now → LastFit h j b result.0 }
+    ensures { (h : Heap) → Ok h (arena_words a.now) r.now → LastFit h j b.bytes result.0 }
 {
     let mut c = link_of(r[sizes::bin_last(j)]);
     while c.0 != NONE64 {
-        if b <= size_at(a, Chunk(c.0)) {
+        if b.bytes <= size_at(a, Chunk(c.0)) {
             return c;
         }
         c = back_at(a, Chunk(c.0));
@@ -60,17 +58,17 @@ fn second_equal(a: &[u8], c: Chunk) -> Chunk
     second
 }
 
-pub fn step6(a: &mut [u8], r: &mut [u32], b: u64) -> Got
-    requires { (b % 16 ≡ 0) × (32 ≤ b) × (b ≤ 262160) × Has Good (arena_words a.old) r.old }
-    ensures { Does Got Good (step6 b) (arena_words a.old) r.old result (arena_words a.new) r.new }
+pub fn step6(a: &mut [u8], r: &mut [u32], b: Size) -> Option<u32>
+    requires { Has Good (arena_words a.old) r.old }
+    ensures { Does (Option ℕ) Good (step6 b.bytes) (arena_words a.old) r.old result (arena_words a.new) r.new }
 {
-    if b < LARGE {
-        return Got::Nothing;
+    if b.bytes < LARGE {
+        return None;
     }
-    let j = sizes::bin_of(b);
+    let j = sizes::bin_of(b.bytes);
     let c = least_fit(a, r, j, b);
     if c.0 == NONE64 {
-        return Got::Nothing;
+        return None;
     }
     let d = second_equal(a, Chunk(c.0));
     step8(a, r, j, d, b, Rest::Plain)

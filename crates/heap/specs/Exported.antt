@@ -1,12 +1,10 @@
 -- A call's bytes and answer as C gets them, and that a promise leaves nothing of them open. Assumes nothing.
 use Rattle.std.specs.Prelude.{◌≡◌, List, ℕ}
 use Rattle.std.proofs.Common.{◌∙◌, sym, ap}
-use Rattle.machine.specs.Calls.{After, after, audit_call, answer_numbers, fault_numbers}
-use Rattle.machine.specs.declared.{Answer.Answer, HeapAnswer.HeapAnswer, HeapFault.HeapFault}
-use Rattle.image.specs.Image.{Written, written, AfterReading, after_reading, reading_numbers}
-use Rattle.image.specs.declared.Reading.{Reading}
-use Rattle.repair.specs.RepairCall.{AfterRepair, after_repair, repair_numbers}
-use Rattle.repair.specs.declared.Repaired.{Repaired}
+use Rattle.machine.specs.Calls.{After, after, audit_call, answer_numbers, fault_numbers, Answered}
+use Rattle.machine.specs.declared.{HeapAnswer.HeapAnswer, HeapFault.HeapFault}
+use Rattle.image.specs.Image.{Written, written, AfterReading, after_reading, reading_numbers, Reading}
+use Rattle.repair.specs.RepairCall.{AfterRepair, after_repair, repair_numbers, Repaired}
 
 -- arena bytes, record bytes and the three numbers
 pub data Back : Type 0 where
@@ -24,7 +22,7 @@ numbers_back (back a r x) = x
 abbrev pub numbered : After → Back
 numbered (after a r x) = back a r (answer_numbers x)
 
-pub back_is : (a r : List ℕ) (x : Answer) (n : HeapAnswer) {y : After} → after a r x ≡ y → n ≡ answer_numbers x → back a r n ≡ numbered y
+pub back_is : (a r : List ℕ) (x : Answered) (n : HeapAnswer) {y : After} → after a r x ≡ y → n ≡ answer_numbers x → back a r n ≡ numbered y
 back_is a r x n e q = ap (back a r) q ∙ ap numbered e
 
 -- ---- a heap in a file. Writing: file bytes and the three numbers
@@ -34,7 +32,7 @@ pub data WrittenBack : Type 0 where
 abbrev pub numbered_written : Written → WrittenBack
 numbered_written (written f x) = written_back f (answer_numbers x)
 
-pub written-back-is : (f : List ℕ) (x : Answer) (n : HeapAnswer) {y : Written} → written f x ≡ y → n ≡ answer_numbers x → written_back f n ≡ numbered_written y
+pub written-back-is : (f : List ℕ) (x : Answered) (n : HeapAnswer) {y : Written} → written f x ≡ y → n ≡ answer_numbers x → written_back f n ≡ numbered_written y
 written-back-is f x n e q = ap (written_back f) q ∙ ap numbered_written e
 
 -- reading: arena bytes, record bytes and the three numbers

@@ -4,29 +4,19 @@ ghost use Rattle.image.specs.Image.{write_call, read_call, reading_numbers};
 ghost use Rattle.heap.specs.Exported.{written_back, numbered_written, read_back, numbered_read};
 
 use crate::fault_numbers;
-use image::Reading;
-use machine::{HeapAnswer, HeapFault, answer_numbers};
+use image::Unread;
+use machine::{Fault, HeapAnswer, HeapFault, answer_numbers};
 
-fn reading_numbers(x: Reading) -> HeapFault
+fn reading_numbers(x: Result<Result<(), Fault>, Unread>) -> HeapFault
     ensures { result ≡ reading_numbers x }
 {
     match x {
-        Reading::NoMark => HeapFault {
-            no: 6,
+        Ok(audited) => fault_numbers(audited),
+        Err(unread) => HeapFault {
+            no: unread.no(),
             kind: 0,
             number: 0,
         },
-        Reading::NoVersion => HeapFault {
-            no: 7,
-            kind: 0,
-            number: 0,
-        },
-        Reading::WrongLength => HeapFault {
-            no: 1,
-            kind: 0,
-            number: 0,
-        },
-        Reading::Read(a) => fault_numbers(a),
     }
 }
 

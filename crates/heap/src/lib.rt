@@ -10,7 +10,7 @@ mod image_calls; // image_calls.rt: a heap in a file
 mod repair_call; // repair_call.rt: a heap mended
 
 pub use image_calls::{heap_read_image, heap_write_image};
-use machine::{Audited, HeapAnswer, HeapFault, ListKind, answer_numbers};
+use machine::{Fault, HeapAnswer, HeapFault, ListKind, answer_numbers};
 pub use repair_call::heap_repair;
 
 fn list_numbers(k: ListKind) -> HeapFault
@@ -35,32 +35,32 @@ fn list_numbers(k: ListKind) -> HeapFault
     }
 }
 
-fn fault_numbers(x: Audited) -> HeapFault
+fn fault_numbers(x: Result<(), Fault>) -> HeapFault
     ensures { result ≡ fault_numbers x }
 {
     match x {
-        Audited::Sound => HeapFault {
+        Ok(()) => HeapFault {
             no: 0,
             kind: 0,
             number: 0,
         },
-        Audited::Record => HeapFault {
+        Err(Fault::Record) => HeapFault {
             no: 0,
             kind: 1,
             number: 0,
         },
-        Audited::Tile(o) => HeapFault {
+        Err(Fault::Tile(o)) => HeapFault {
             no: 0,
             kind: 2,
             number: o,
         },
-        Audited::List(k) => list_numbers(k),
-        Audited::Flag(o) => HeapFault {
+        Err(Fault::List(k)) => list_numbers(k),
+        Err(Fault::Flag(o)) => HeapFault {
             no: 0,
             kind: 6,
             number: o,
         },
-        Audited::Shape => HeapFault {
+        Err(Fault::Shape) => HeapFault {
             no: 1,
             kind: 0,
             number: 0,

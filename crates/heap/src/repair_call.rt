@@ -4,27 +4,19 @@ ghost use Rattle.repair.specs.RepairCall.{repair_call, repair_numbers};
 ghost use Rattle.heap.specs.Exported.{back, numbered_repair};
 
 use machine::HeapAnswer;
-use repair::Repaired;
+use repair::Unmended;
 
-fn repair_numbers(x: Repaired) -> HeapAnswer
+fn repair_numbers(x: Result<(), Unmended>) -> HeapAnswer
     ensures { result ≡ repair_numbers x }
 {
-    match x {
-        Repaired::Done => HeapAnswer {
-            no: 0,
-            mem: 0,
-            usable: 0,
-        },
-        Repaired::Shape => HeapAnswer {
-            no: 1,
-            mem: 0,
-            usable: 0,
-        },
-        Repaired::Faulty => HeapAnswer {
-            no: 11,
-            mem: 0,
-            usable: 0,
-        },
+    let no = match x {
+        Ok(()) => 0,
+        Err(unmended) => unmended.no(),
+    };
+    HeapAnswer {
+        no,
+        mem: 0,
+        usable: 0,
     }
 }
 

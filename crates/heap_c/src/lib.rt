@@ -1,4 +1,5 @@
 // The calls as C links them: the archive of include/heap.h. Each is heap's call of the same name, with heap's contract.
+// Kept: each stands here once more, since the exported names of a static library stand in its own crate (the C interface).
 #![tactic(auto)]
 
 ghost use Rattle.std.specs.Prelude.{◌≡◌};

@@ -10,11 +10,18 @@ ghost use Rattle.script_run.specs.Run.{Buffers};
 
 use saved::save_heap;
 use script_run::Log;
+use sizes::RECORD_BYTES;
 use std::io::Read;
 
-// The output buffer: room for a line of 86 bytes for each byte of a piece.
-fn out_buffer() -> [u8; 352256] {
-    [0u8; 352256]
+// How many bytes of the script are read at a time.
+const PIECE_LEN: usize = 4096;
+
+// The length of the output buffer: room for a line of 86 bytes for each byte of a piece.
+const OUT_LEN: usize = 86 * PIECE_LEN;
+
+// Kept: not an array of main, whose check it would make many times longer (b).
+fn out_buffer() -> [u8; OUT_LEN] {
+    [0u8; OUT_LEN]
 }
 
 // Writes what the run has printed. What cannot be written is lost: the run goes on.
@@ -23,8 +30,7 @@ fn write_printed(to: &impl Print, mut log: Log, out: &[u8]) -> Log
     ensures opened_value { result.opened ≡ log.opened }
     ensures printed_value { result.printed ≡ 0 }
 {
-    let n = log.printed;
-    let _ = to.write_all(&out[..n]);
+    let _ = to.write_all(&out[..log.printed]);
     log.printed = 0;
     log
 }
@@ -45,13 +51,14 @@ fn turn(
     ensures opened_bound_2 { result.opened ≤ 49152 }
     ensures printed_value_2 { result.printed ≡ 0 }
 {
-    let mut buf = [0u8; 4096];
+    let mut buf = [0u8; PIECE_LEN];
     let n = from.read(&mut buf).unwrap_or(0);
     if n == 0 {
         let last = script_run::finish(log, arena, control, out);
-        let mut ended = write_printed(to, last, out);
-        ended.ended = true;
-        return ended;
+        return Log {
+            ended: true,
+            ..write_printed(to, last, out)
+        };
     }
     let fed = script_run::feed_piece(log, &buf[..n], arena, control, out);
     write_printed(to, fed, out)
@@ -59,7 +66,7 @@ fn turn(
 
 fn main(rt: HostRuntime) {
     let mut arena = [0u8; 49152];
-    let mut control = [0u8; 1584];
+    let mut control = [0u8; RECORD_BYTES];
     let mut out = out_buffer();
     let begun = script_run::begin(&mut arena, &mut control, &mut out);
     let mut log = write_printed(&rt, begun, &out);

@@ -2,7 +2,6 @@
 ghost use Rattle.std.specs.Prelude.{◌≡◌, ◌≤◌, length};
 
 use image::ARENA_AT;
-use machine::Answer;
 use std::env::Env;
 use std::fs::Files;
 
@@ -17,13 +16,8 @@ fn file_buffer() -> [u8; 50745]
 fn save_image<R: Files + Eprint>(rt: &R, arena: &[u8], control: &[u8], file: &mut [u8], path: &[u8])
     requires { length path.now ≤ 4096 }
 {
-    let x = image::write_image(arena, control, file);
-    match x {
-        Answer::Done => {
-            image_file::save(rt, path, file);
-        }
-        Answer::Granted { mem: _, usable: _ } => {}
-        Answer::Refused(_) => {}
+    if image::write_image(arena, control, file).is_ok() {
+        image_file::save(rt, path, file);
     }
 }
 

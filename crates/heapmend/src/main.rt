@@ -5,38 +5,21 @@
 
 ghost use Rattle.std.specs.Prelude.{◌≡◌, ◌≤◌, length};
 
+use image_file::LONGEST_IMAGE;
+use sizes::{MOST_ARENA, RECORD_BYTES};
 use std::env::Env;
 use std::fs::Files;
-use std::io::Read;
-
-// The longest image, and one byte more: a file that fills it is too long.
-fn file_buffer() -> [u8; 263738] {
-    [0u8; 263738]
-}
-
-// The longest image.
-fn image_buffer() -> [u8; 263737] {
-    [0u8; 263737]
-}
 
 // Room for a line for each number of the longest arena and its record.
-fn out_buffer() -> [u8; 2155660] {
-    [0u8; 2155660]
+const OUT_LEN: usize = 2155660;
+
+// Kept: not an array of main, whose check it would make many times longer (b).
+fn out_buffer() -> [u8; OUT_LEN] {
+    [0u8; OUT_LEN]
 }
 
-// Reads until the buffer is full, the input ends or a read fails: how many bytes stand at its start.
-fn read_full(from: &mut impl Read, buf: &mut [u8]) -> usize
-    ensures { result ≤ length buf.new }
-{
-    let mut done = 0;
-    while done < buf.len() {
-        let n = from.read(&mut buf[done..]).unwrap_or(0);
-        if n == 0 {
-            break;
-        }
-        done += n;
-    }
-    done
+fn mended_buffer() -> [u8; LONGEST_IMAGE] {
+    [0u8; LONGEST_IMAGE]
 }
 
 // The first n bytes of the lines. What cannot be written is lost.
@@ -50,24 +33,20 @@ fn write_lines(to: &impl Print, out: &[u8], n: usize)
 fn save_mended<R: Env + Files + Eprint>(rt: &R, mended: &[u8], n: usize)
     requires { n ≤ length mended.now }
 {
-    if n == 0 {
-        return;
+    if n != 0 && image_file::asked(rt) {
+        image_file::save_asked(rt, &mended[..n]);
     }
-    if !image_file::asked(rt) {
-        return;
-    }
-    image_file::save_asked(rt, &mended[..n]);
 }
 
 fn main(rt: HostRuntime) {
-    let mut file = file_buffer();
+    let mut file = image_file::image_room();
     let mut input = rt.stdin();
-    let n = read_full(&mut input, &mut file);
-    let mut was = [0u8; 262144];
-    let mut was_control = [0u8; 1584];
-    let mut arena = [0u8; 262144];
-    let mut control = [0u8; 1584];
-    let mut mended = image_buffer();
+    let n = image_file::read_full(&mut input, &mut file);
+    let mut was = [0u8; MOST_ARENA];
+    let mut was_control = [0u8; RECORD_BYTES];
+    let mut arena = [0u8; MOST_ARENA];
+    let mut control = [0u8; RECORD_BYTES];
+    let mut mended = mended_buffer();
     let mut out = out_buffer();
     let m = repair_text::mend_file(
         &mut out,

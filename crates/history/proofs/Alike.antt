@@ -1,6 +1,6 @@
 -- Two states that are alike are answered alike, event by event, and stay alike: an answer depends on the heap and the number alone, whatever bytes the
 -- arenas hold. Shown once, for any relation between heaps that the steps keep. Assumes nothing.
-use Rattle.std.specs.Prelude.{◌≡◌, Bool, ℕ, ◌+◌, ◌-◌, ◌%◌, ◌≤◌, eqb, leb, set}
+use Rattle.std.specs.Prelude.{◌≡◌, Bool, ℕ, ◌+◌, ◌-◌, ◌%◌, ◌≤◌, eqb, leb, set, Option, Some, None, Ok, Err}
 use Rattle.std.proofs.Math.Path.{refl, sym, subst}
 use Rattle.std.proofs.Common.{ap, ◌∙◌, ⊎_elim, arith, eqb-true}
 use mathlib.Core.List.{List, [], ◌∷◌}
@@ -16,8 +16,7 @@ use Rattle.machine.specs.Release.{release, emptying, joining}
 use Rattle.machine.specs.Grant.{grant}
 use Rattle.machine.specs.Resize.{resize}
 use Rattle.machine.specs.Calls as C
-use Rattle.machine.specs.declared.{Got.Got, Got.TheVariants.At, Got.TheVariants.Nothing, Answer.Answer}
-use Rattle.machine.specs.declared.Answer.TheVariants.{Done, Granted, Refused}
+use Rattle.machine.specs.declared.Answer.TheVariants.{Done, Granted}
 use Rattle.machine.specs.declared.Refusal.TheVariants as N
 use Rattle.sound.specs.Relation.{Mem, Good}
 use Rattle.sound.specs.Tiles.{lt-or-le}
@@ -34,20 +33,21 @@ use Rattle.history.specs.Stores.{store_view}
 use Rattle.history.specs.Like.{Given, Like}
 use Rattle.history.specs.Chosen.{rechosen, with_choice, Chosen, grant-chosen, release-chosen, resize-chosen, emptying-chosen, joining-chosen}
 use Rattle.history.proofs.Runs.{resized-null, resized-zero, next-ready}
+use Rattle.machine.specs.Calls.{Answered}
 
 -- what a grant's steps answer, and a resize's
-abbrev pub said : Ran Got → Answer
-said (ran h ws (At c)) = Granted (c + 16) (usable (size_of h c))
-said (ran h ws Nothing) = Refused N.NoRoom
+abbrev pub said : Ran (Option ℕ) → Answered
+said (ran h ws (Some c)) = Ok (Granted (c + 16) (usable (size_of h c)))
+said (ran h ws None) = Err N.NoRoom
 
-pub said-like : (w : Given → Given) (x x' : Ran Got) → Like w x x' → said x ≡ said x'
-said-like w (ran h ws (At c)) (ran h' ws' (At c')) l =
+pub said-like : (w : Given → Given) (x x' : Ran (Option ℕ)) → Like w x x' → said x ≡ said x'
+said-like w (ran h ws (Some c)) (ran h' ws' (Some c')) l =
     let z : c' ≡ c = cc in
     let e : size_of h' c' ≡ size_of h c = ap (λ (g : Heap). size_of g c') l.heap ∙ ap (size_of h) z in
     cc
-said-like w (ran h ws Nothing) (ran h' ws' Nothing) l = refl
-said-like w (ran h ws (At c)) (ran h' ws' Nothing) l = absurd (let z : ◌≡◌ {A = ℕ} 0 1 = cc in omega arith)
-said-like w (ran h ws Nothing) (ran h' ws' (At c)) l = absurd (let z : ◌≡◌ {A = ℕ} 0 1 = cc in omega arith)
+said-like w (ran h ws None) (ran h' ws' None) l = refl
+said-like w (ran h ws (Some c)) (ran h' ws' None) l = absurd (let z : ◌≡◌ {A = ℕ} 0 1 = cc in omega arith)
+said-like w (ran h ws None) (ran h' ws' (Some c)) l = absurd (let z : ◌≡◌ {A = ℕ} 0 1 = cc in omega arith)
 
 -- of sound heaps that Q holds of, the live chunks are the same, a grant and a resize answer the same, and Q holds after every step, given what M asks of the
 -- event and the two heaps before it. What M asks of a resize is what it asks of the grant or the release that it is, where the mem is null or the length 0
@@ -90,13 +90,13 @@ module _ (Q : Heap → Heap → Type 0) (a a' : List ℕ) where
       subst (λ (k : Heap). Q k (C.heap_in (bytes 8 w') (bytes 4 (record_of g')))) (sym (written_read g F.good w m F.low))
       (subst (λ (k : Heap). Q g k) (sym (written_read g' F'.good w' m' F'.low)) q)
 
-  grant-alike : (bs : List Block) (x x' : Ran Got) → Ends x (arena_words a) Fine → Ends x' (arena_words a') Fine → said x ≡ said x' → Q (heap_of x) (heap_of x')
+  grant-alike : (bs : List Block) (x x' : Ran (Option ℕ)) → Ends x (arena_words a) Fine → Ends x' (arena_words a') Fine → said x ≡ said x' → Q (heap_of x) (heap_of x')
       → (answer_of (C.granted a x) ≡ answer_of (C.granted a' x')) × Alike Q (granted bs (C.granted a x)) (granted bs (C.granted a' x'))
-  grant-alike bs (ran g ws (At c)) (ran g' ws' (At c')) E E' e q =
+  grant-alike bs (ran g ws (Some c)) (ran g' ws' (Some c')) E E' e q =
       (e, (read g g' (apply ws (arena_words a)) (apply ws' (arena_words a')) E.now E.mem E'.now E'.mem q, cc))
-  grant-alike bs (ran g ws (At c)) (ran g' ws' Nothing) E E' e q = absurd (let z : ◌≡◌ {A = ℕ} 0 1 = cc in omega arith)
-  grant-alike bs (ran g ws Nothing) (ran g' ws' (At c')) E E' e q = absurd (let z : ◌≡◌ {A = ℕ} 0 1 = cc in omega arith)
-  grant-alike bs (ran g ws Nothing) (ran g' ws' Nothing) E E' e q =
+  grant-alike bs (ran g ws (Some c)) (ran g' ws' None) E E' e q = absurd (let z : ◌≡◌ {A = ℕ} 0 1 = cc in omega arith)
+  grant-alike bs (ran g ws None) (ran g' ws' (Some c')) E E' e q = absurd (let z : ◌≡◌ {A = ℕ} 0 1 = cc in omega arith)
+  grant-alike bs (ran g ws None) (ran g' ws' None) E E' e q =
       (e, (read g g' (apply ws (arena_words a)) (apply ws' (arena_words a')) E.now E.mem E'.now E'.mem q, refl))
 
   release-alike : {A : Type 0} (m : ℕ) (bs : List Block) (x x' : Ran A) → Ends x (arena_words a) Fine → Ends x' (arena_words a') Fine → Q (heap_of x) (heap_of x')
@@ -104,12 +104,12 @@ module _ (Q : Heap → Heap → Type 0) (a a' : List ℕ) where
   release-alike m bs (ran g ws y) (ran g' ws' y') E E' q =
       (refl, (read g g' (apply ws (arena_words a)) (apply ws' (arena_words a')) E.now E.mem E'.now E'.mem q, refl))
 
-  resize-alike : (m : ℕ) (bs : List Block) (x x' : Ran Got) → Ends x (arena_words a) Fine → Ends x' (arena_words a') Fine → said x ≡ said x' → Q (heap_of x) (heap_of x')
+  resize-alike : (m : ℕ) (bs : List Block) (x x' : Ran (Option ℕ)) → Ends x (arena_words a) Fine → Ends x' (arena_words a') Fine → said x ≡ said x' → Q (heap_of x) (heap_of x')
       → (answer_of (C.granted a x) ≡ answer_of (C.granted a' x')) × Alike Q (resized m bs (C.granted a x)) (resized m bs (C.granted a' x'))
-  resize-alike m bs (ran g ws (At c)) (ran g' ws' (At c')) E E' e q = grant-alike (drop m bs) (ran g ws (At c)) (ran g' ws' (At c')) E E' e q
-  resize-alike m bs (ran g ws (At c)) (ran g' ws' Nothing) E E' e q = absurd (let z : ◌≡◌ {A = ℕ} 0 1 = cc in omega arith)
-  resize-alike m bs (ran g ws Nothing) (ran g' ws' (At c')) E E' e q = absurd (let z : ◌≡◌ {A = ℕ} 0 1 = cc in omega arith)
-  resize-alike m bs (ran g ws Nothing) (ran g' ws' Nothing) E E' e q = grant-alike bs (ran g ws Nothing) (ran g' ws' Nothing) E E' e q
+  resize-alike m bs (ran g ws (Some c)) (ran g' ws' (Some c')) E E' e q = grant-alike (drop m bs) (ran g ws (Some c)) (ran g' ws' (Some c')) E E' e q
+  resize-alike m bs (ran g ws (Some c)) (ran g' ws' None) E E' e q = absurd (let z : ◌≡◌ {A = ℕ} 0 1 = cc in omega arith)
+  resize-alike m bs (ran g ws None) (ran g' ws' (Some c')) E E' e q = absurd (let z : ◌≡◌ {A = ℕ} 0 1 = cc in omega arith)
+  resize-alike m bs (ran g ws None) (ran g' ws' None) E E' e q = grant-alike bs (ran g ws None) (ran g' ws' None) E E' e q
 
   job-alike : {A : Type 0} (bs : List Block) (x x' : Ran A) → Ends x (arena_words a) Fine → Ends x' (arena_words a') Fine → Q (heap_of x) (heap_of x')
       → (answer_of (C.done a x) ≡ answer_of (C.done a' x')) × Alike Q (kept bs (C.done a x)) (kept bs (C.done a' x'))
@@ -171,7 +171,7 @@ module _ (Q : Heap → Heap → Type 0) (M : Event → Heap → Heap → Type 0)
   freed-both m k false e = (refl, (q, refl))
 
   null : ℕ → List ℕ → List ℕ → Heap → Bool → C.After
-  null m a r h t = elim t [ true ↦ C.after a r Done | false ↦ freed m a r h (both (leb 16 m) (live? h (m - 16))) ]
+  null m a r h t = elim t [ true ↦ C.after a r (Ok Done) | false ↦ freed m a r h (both (leb 16 m) (live? h (m - 16))) ]
 
   null-both : (m : ℕ) → M (Release m) h h' → (t : Bool) → eqb m 0 ≡ t → Both (released m) (null m a r h t) (null m a' r' h' t)
   unfolding null
@@ -234,15 +234,15 @@ module _ (Q : Heap → Heap → Type 0) (M : Event → Heap → Heap → Type 0)
 
   same_blocks : (e : Event) → M e h h' → Same Q e (state a r bs) (state a' r' bs)
   unfolding next
-  same_blocks (Grant n) k = let b = grant-both n k in (ap (λ (x : Answer). x ∷ []) b.0, b.1)
-  same_blocks (Release m) k = let b = release-both m k in (ap (λ (x : Answer). x ∷ []) b.0, b.1)
-  same_blocks (Resize m n) k = let b = resize-both m n k in (ap (λ (x : Answer). x ∷ []) b.0, b.1)
+  same_blocks (Grant n) k = let b = grant-both n k in (ap (λ (x : Answered). x ∷ []) b.0, b.1)
+  same_blocks (Release m) k = let b = release-both m k in (ap (λ (x : Answered). x ∷ []) b.0, b.1)
+  same_blocks (Resize m n) k = let b = resize-both m n k in (ap (λ (x : Answered). x ∷ []) b.0, b.1)
   same_blocks Emptying k =
       let b = job-both emptying emptying-job (K.empties h h' R.sound.good R'.sound.good q k) in
-      (ap (λ (x : Answer). x ∷ []) b.0, b.1)
+      (ap (λ (x : Answered). x ∷ []) b.0, b.1)
   same_blocks Joining k =
       let b = job-both joining joining-job (K.joins h h' R.sound.good R'.sound.good q k) in
-      (ap (λ (x : Answer). x ∷ []) b.0, b.1)
+      (ap (λ (x : Answered). x ∷ []) b.0, b.1)
   same_blocks (Store p v) k = (refl, store_both p v (holds? bs p) refl)
 
 -- M holds of every event of a run, of the two heaps before it

@@ -1,5 +1,5 @@
 -- An arena keeps its length in every run: no call writes outside it, and none makes it shorter. Assumes nothing.
-use Rattle.std.specs.Prelude.{◌≡◌, refl, List, [], ◌∷◌, Bool, true, false, ℕ, ◌-◌, ◌%◌, eqb, leb, length, set}
+use Rattle.std.specs.Prelude.{◌≡◌, refl, List, [], ◌∷◌, Bool, true, false, ℕ, ◌-◌, ◌%◌, eqb, leb, length, set, Option, Some, None, Ok}
 use Rattle.std.proofs.Common.{ap, ◌∙◌, ⊎_elim, length-set}
 use Rattle.sizes.specs.Sizes.{need}
 use Rattle.machine.specs.Lists.{both}
@@ -9,7 +9,6 @@ use Rattle.machine.specs.Release.{release, emptying, joining}
 use Rattle.machine.specs.Grant.{grant}
 use Rattle.machine.specs.Resize.{resize}
 use Rattle.machine.specs.Calls as C
-use Rattle.machine.specs.declared.{Got.Got, Got.TheVariants.At, Got.TheVariants.Nothing}
 use Rattle.machine.specs.declared.Answer.TheVariants.{Done}
 use Rattle.machine.specs.declared.Refusal.TheVariants as N
 use Rattle.sound.specs.Tiles.{lt-or-le}
@@ -21,9 +20,9 @@ use Rattle.history.specs.Called.{open_lent, grant-large, grant-called, release-c
 use Rattle.history.proofs.Runs.{resized-null, resized-zero, next-ready}
 
 module _ (a r : List ℕ) (bs : List Block) (R : Ready a r bs) where
-  granted-length : (x : Ran Got) → length (arena_in (granted bs (C.granted a x))) ≡ length a
-  granted-length (ran g ws (At c)) = left-length a r R.lent ws
-  granted-length (ran g ws Nothing) = left-length a r R.lent ws
+  granted-length : (x : Ran (Option ℕ)) → length (arena_in (granted bs (C.granted a x))) ≡ length a
+  granted-length (ran g ws (Some c)) = left-length a r R.lent ws
+  granted-length (ran g ws None) = left-length a r R.lent ws
 
   grant-length : (n : ℕ) → length (arena_in (granted bs (C.grant_call a r n))) ≡ length a
   grant-length n = ⊎_elim
@@ -39,16 +38,16 @@ module _ (a r : List ℕ) (bs : List Block) (R : Ready a r bs) where
       ∙ null (eqb m 0) (both (leb 16 m) (live? (C.heap_in a r) (m - 16)))
     where
       null : (t u : Bool) → length (arena_in (released m bs (elim t [
-        | true ↦ C.after a r Done
+        | true ↦ C.after a r (Ok Done)
         | false ↦ elim u [ true ↦ C.done a (release (m - 16) (C.heap_in a r)) | false ↦ C.refused a r N.NotLive ]
       ]))) ≡ length a
       null true u = refl
       null false true = released-length m (release (m - 16) (C.heap_in a r))
       null false false = refl
 
-  resized-length : (m : ℕ) (x : Ran Got) → length (arena_in (resized m bs (C.granted a x))) ≡ length a
-  resized-length m (ran g ws (At c)) = left-length a r R.lent ws
-  resized-length m (ran g ws Nothing) = left-length a r R.lent ws
+  resized-length : (m : ℕ) (x : Ran (Option ℕ)) → length (arena_in (resized m bs (C.granted a x))) ≡ length a
+  resized-length m (ran g ws (Some c)) = left-length a r R.lent ws
+  resized-length m (ran g ws None) = left-length a r R.lent ws
 
   resize-length : (m n : ℕ) → length (arena_in (resized m bs (C.resize_call a r m n))) ≡ length a
   resize-length m n =

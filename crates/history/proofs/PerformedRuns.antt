@@ -2,9 +2,8 @@
 -- number 0 answers a block, a release none, and a resize one exactly if its mem is not 0. And every run can be performed so. Assumes nothing.
 use Rattle.std.specs.Prelude.{◌≡◌, refl, List, [], ◌∷◌, Bool, true, false, ℕ, ◌+◌, eqb}
 use Rattle.std.proofs.Common.{sym, ap, ◌∙◌, subst, arith, ne_eqb}
-use Rattle.machine.specs.Calls.{After, after, answer_numbers, open_call, grant_call, release_call, resize_call, emptying_call, joining_call}
+use Rattle.machine.specs.Calls.{After, after, answer_numbers, open_call, grant_call, release_call, resize_call, emptying_call, joining_call, Answered}
 use Rattle.machine.specs.declared.HeapAnswer.{HeapAnswer}
-use Rattle.machine.specs.declared.Answer.{Answer}
 use Rattle.calls_consequences.specs.Results.{Lent, arena_left, record_left}
 use Rattle.calls_consequences.specs.Cases.{grant-cases, release-cases, resize-cases}
 use Rattle.heap.specs.Exported.{Back, back, numbered, numbers_back}
@@ -93,7 +92,7 @@ result-is : (y : After) → back (arena_left y) (record_left y) (answer_numbers 
 result-is (after b q x) = refl
 
 -- the numbers of a run, from its first event on
-numbers_more : (e : Event) (s : State) (es : List Event) {y : Answer} → answer_to e s ≡ y ∷ [] → numbers (e ∷ es) s ≡ answer_numbers y ∷ numbers es (next e s)
+numbers_more : (e : Event) (s : State) (es : List Event) {y : Answered} → answer_to e s ≡ y ∷ [] → numbers (e ∷ es) s ≡ answer_numbers y ∷ numbers es (next e s)
 unfolding numbers answers
 numbers_more e s es p = rw p
 

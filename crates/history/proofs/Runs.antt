@@ -1,6 +1,6 @@
 -- Every event of a run leaves what it found: lent bytes, a sound heap, and blocks held that are its live chunks. The counts of each step say which block
 -- comes or goes. Assumes nothing.
-use Rattle.std.specs.Prelude.{◌≡◌, List, [], ◌∷◌, Bool, true, false, ℕ, ◌+◌, ◌-◌, ◌%◌, ◌≤◌, eqb, leb, length, set}
+use Rattle.std.specs.Prelude.{◌≡◌, List, [], ◌∷◌, Bool, true, false, ℕ, ◌+◌, ◌-◌, ◌%◌, ◌≤◌, eqb, leb, length, set, Option, Some, None, Ok, Err}
 use Rattle.std.proofs.Math.Path.{refl, ap}
 use Rattle.std.proofs.Common.{sym, ◌∙◌, subst, ⊎_elim, eqb-true, leb-true}
 use native.Mathlib.Omega.{arith}
@@ -17,8 +17,7 @@ use Rattle.machine.specs.Release.{release, emptying, joining}
 use Rattle.machine.specs.Grant.{grant}
 use Rattle.machine.specs.Resize.{resize}
 use Rattle.machine.specs.Calls as C
-use Rattle.machine.specs.declared.{Got.Got, Got.TheVariants.At, Got.TheVariants.Nothing}
-use Rattle.machine.specs.declared.Answer.TheVariants.{Done, Granted, Refused}
+use Rattle.machine.specs.declared.Answer.TheVariants.{Done, Granted}
 use Rattle.machine.specs.declared.Refusal.TheVariants as N
 use Rattle.sound.specs.Relation.{Mem, Loose, Good}
 use Rattle.sound.specs.Tiles.{lt-or-le}
@@ -74,18 +73,18 @@ module _ (a r : List ℕ) (bs : List Block) (R : Ready a r bs) where
         sizes = keep (ran g ws y) i nil bs M (λ m k. (k, refl)) R.holds.sizes;
       })
 
-  grant-left : (b : ℕ) → 32 ≤ b → (x : Ran Got) → Fine (heap_of x) → Leaves (C.heap_in a r) (arena_words a) x (Found b (C.heap_in a r)) gave nil
+  grant-left : (b : ℕ) → 32 ≤ b → (x : Ran (Option ℕ)) → Fine (heap_of x) → Leaves (C.heap_in a r) (arena_words a) x (Found b (C.heap_in a r)) gave nil
       → ReadyAt (granted bs (C.granted a x))
   unfolding usable
-  grant-left b b32 (ran g ws (At c)) F l =
+  grant-left b b32 (ran g ws (Some c)) F l =
       let e : c + 16 - 16 ≡ c = omega arith in
       let u : usable (size_of g c) + 8 ≡ size_of g c = omega (arith, l.now.1) in
       left-ready a r R.lent g ws (record { mem = c + 16; usable = usable (size_of g c) } ∷ bs) F l.mem (record {
         low = λ m k. omega (arith, R.holds.low m k, ind-other m (c + 16) (λ q. omega arith));
         count = λ x. omega (arith, R.holds.count x, l.moved.count x, ind-chunk x c (c + 16) refl);
-        sizes = (u ∙ ap (λ (y : ℕ). size_of g y) (sym e), keep (ran g ws (At c)) gave nil bs l.moved (λ m k. (k, refl)) R.holds.sizes);
+        sizes = (u ∙ ap (λ (y : ℕ). size_of g y) (sym e), keep (ran g ws (Some c)) gave nil bs l.moved (λ m k. (k, refl)) R.holds.sizes);
       })
-  grant-left b b32 (ran g ws Nothing) F l = stay g ws Nothing gave (λ x. refl) F l.mem l.moved
+  grant-left b b32 (ran g ws None) F l = stay g ws None gave (λ x. refl) F l.mem l.moved
 
   grant-ready : (n : ℕ) → ReadyAt (granted bs (C.grant_call a r n))
   grant-ready n = ⊎_elim
@@ -127,19 +126,19 @@ module _ (a r : List ℕ) (bs : List Block) (R : Ready a r bs) where
         })
 
     -- and the chunk that is answered comes
-    resize-left : (b : ℕ) → 32 ≤ b → (x : Ran Got) → Fine (heap_of x) → (k : Heap) → Resized c b k (C.heap_in a r) (arena_words a) x
+    resize-left : (b : ℕ) → 32 ≤ b → (x : Ran (Option ℕ)) → Fine (heap_of x) → (k : Heap) → Resized c b k (C.heap_in a r) (arena_words a) x
         → ReadyAt (resized m bs (C.granted a x))
     unfolding usable
-    resize-left b b32 (ran g ws (At d)) F k Z =
+    resize-left b b32 (ran g ws (Some d)) F k Z =
         let l = Z.leaves in
         let q : d + 16 - 16 ≡ d = omega arith in
         let u : usable (size_of g d) + 8 ≡ size_of g d = omega (arith, l.now.1) in
         left-ready a r R.lent g ws (record { mem = d + 16; usable = usable (size_of g d) } ∷ drop m bs) F l.mem (record {
           low = λ n j. omega (arith, drop-count m bs held n, R.holds.low n j, ind-other n (d + 16) (λ q. omega arith));
           count = λ x. omega (arith, drop-count m bs held (x + 16), ind-chunk x c m e, ind-chunk x d (d + 16) refl, R.holds.count x, l.moved.count x);
-          sizes = (u ∙ ap (λ (y : ℕ). size_of g y) (sym q), dropped (ran g ws (At d)) (λ a x. one (now_at c a) x) l.moved);
+          sizes = (u ∙ ap (λ (y : ℕ). size_of g y) (sym q), dropped (ran g ws (Some d)) (λ a x. one (now_at c a) x) l.moved);
         })
-    resize-left b b32 (ran g ws Nothing) F k Z = stay g ws Nothing (any nil) (λ x. refl) F Z.leaves.mem (Z.refused refl)
+    resize-left b b32 (ran g ws None) F k Z = stay g ws None (any nil) (λ x. refl) F Z.leaves.mem (Z.refused refl)
 
   release-ready : (m : ℕ) → ReadyAt (released m bs (C.release_call a r m))
   release-ready m = subst (λ (x : C.After). ReadyAt (released m bs x)) (sym (release-called a r R.lent R.sound m)) (null (eqb m 0) refl)
@@ -155,7 +154,7 @@ module _ (a r : List ℕ) (bs : List Block) (R : Ready a r bs) where
       chunk false e = R
 
       null : (t : Bool) → eqb m 0 ≡ t → ReadyAt (released m bs (elim t [
-        | true ↦ C.after a r Done
+        | true ↦ C.after a r (Ok Done)
         | false ↦ elim (both (leb 16 m) (live? (C.heap_in a r) (m - 16))) [ true ↦ C.done a (release (m - 16) (C.heap_in a r)) | false ↦ C.refused a r N.NotLive ]
       ]))
       null true e =
@@ -168,9 +167,9 @@ module _ (a r : List ℕ) (bs : List Block) (R : Ready a r bs) where
   resized-null m z x = go x (drop-none m bs (R.holds.low m (omega (arith, eqb-true m 0 z))))
     where
       go : (x : C.After) → drop m bs ≡ bs → resized m bs x ≡ granted bs x
-      go (C.after b s Done) e = ap (state b s) e
-      go (C.after b s (Granted k u)) e = ap (λ (l : List Block). state b s (record { mem = k; usable = u } ∷ l)) e
-      go (C.after b s (Refused y)) e = refl
+      go (C.after b s (Ok Done)) e = ap (state b s) e
+      go (C.after b s (Ok (Granted k u))) e = ap (λ (l : List Block). state b s (record { mem = k; usable = u } ∷ l)) e
+      go (C.after b s (Err y)) e = refl
 
   pub resized-zero : (m : ℕ) → resized m bs (C.release_call a r m) ≡ released m bs (C.release_call a r m)
   resized-zero m =

@@ -1,12 +1,12 @@
 -- No call of a run changes a usable byte of a block that stays held, refused calls included, and a resized block has its first bytes where it then stands.
 -- What is held is live, and of live blocks the calls on bytes say so. Assumes nothing.
-use Rattle.std.specs.Prelude.{◌≡◌, refl, List, [], ◌∷◌, true, ℕ, ◌+◌, ◌-◌, ◌≤◌, ◌<◌, get_or}
+use Rattle.std.specs.Prelude.{◌≡◌, refl, List, [], ◌∷◌, true, ℕ, ◌+◌, ◌-◌, ◌≤◌, ◌<◌, get_or, Ok, Err}
 use Rattle.std.proofs.Common.{sym, ap, ◌∙◌, ⊎_elim, arith}
 use Rattle.machine.specs.Heap.{Heap, size_of, live?}
 use Rattle.machine.specs.Writes.{Ran}
 use Rattle.machine.specs.Release.{emptying, joining}
 use Rattle.machine.specs.Calls as C
-use Rattle.machine.specs.declared.Answer.TheVariants.{Done, Granted, Refused}
+use Rattle.machine.specs.declared.Answer.TheVariants.{Done, Granted}
 use Rattle.machine.specs.declared.Refusal.{Refusal}
 use Rattle.machine.specs.declared.Refusal.TheVariants as N
 use Rattle.sound.specs.Tiles.{lt-or-le}
@@ -25,19 +25,19 @@ pub record ByteOf (h : Heap) (m p : ℕ) : Type 0 where
 
 -- ---- an event leaves the arena of its call
 granted-arena : (bs : List Block) (x : C.After) → arena_in (granted bs x) ≡ arena_left x
-granted-arena bs (C.after a r Done) = refl
-granted-arena bs (C.after a r (Granted k u)) = refl
-granted-arena bs (C.after a r (Refused y)) = refl
+granted-arena bs (C.after a r (Ok Done)) = refl
+granted-arena bs (C.after a r (Ok (Granted k u))) = refl
+granted-arena bs (C.after a r (Err y)) = refl
 
 released-arena : (m : ℕ) (bs : List Block) (x : C.After) → arena_in (released m bs x) ≡ arena_left x
-released-arena m bs (C.after a r Done) = refl
-released-arena m bs (C.after a r (Granted k u)) = refl
-released-arena m bs (C.after a r (Refused y)) = refl
+released-arena m bs (C.after a r (Ok Done)) = refl
+released-arena m bs (C.after a r (Ok (Granted k u))) = refl
+released-arena m bs (C.after a r (Err y)) = refl
 
 resized-arena : (m : ℕ) (bs : List Block) (x : C.After) → arena_in (resized m bs x) ≡ arena_left x
-resized-arena m bs (C.after a r Done) = refl
-resized-arena m bs (C.after a r (Granted k u)) = refl
-resized-arena m bs (C.after a r (Refused y)) = refl
+resized-arena m bs (C.after a r (Ok Done)) = refl
+resized-arena m bs (C.after a r (Ok (Granted k u))) = refl
+resized-arena m bs (C.after a r (Err y)) = refl
 
 kept-arena : (bs : List Block) (x : C.After) → arena_in (kept bs x) ≡ arena_left x
 kept-arena bs (C.after a r y) = refl
@@ -92,24 +92,24 @@ next-spares Joining (state a r bs) R m p l i u = job-spares a r bs R m i joining
 next-spares (Store q v) (state a r bs) R m p l i u = absurd l
 
 -- ---- a held block that is resized: its byte i is byte i of the block that is granted, moved or not, as far as both reach; refused, all its bytes stay
-pub resize-keeps : (s : State) → ReadyAt s → (m n k u i : ℕ) → 1 ≤ held_at m (blocks_in s) → answer_to (Resize m n) s ≡ Granted k u ∷ [] → ByteOf (heap_at s) m (m + i) → i < u
+pub resize-keeps : (s : State) → ReadyAt s → (m n k u i : ℕ) → 1 ≤ held_at m (blocks_in s) → answer_to (Resize m n) s ≡ Ok (Granted k u) ∷ [] → ByteOf (heap_at s) m (m + i) → i < u
     → get_or (arena_in (next (Resize m n) s)) (k + i) 0 ≡ get_or (arena_in s) (m + i) 0
 unfolding next
 resize-keeps (state a r bs) R m n k u i held e b l =
     let x : C.After = C.resize_call a r m n in
-    let g : answered x ≡ Granted k u = cc in
+    let g : answered x ≡ (Ok (Granted k u)) = cc in
     ap (λ (c : List ℕ). get_or c (k + i) 0) (resized-arena m bs x)
     ∙ (resized-to a r R.lent m n (sound-in a r R.lent R.sound) (low a r bs R m held, live a r bs R m held) (small g) k u g).bytes i (omega (arith, b.high)) l
   where
-    small : answered (C.resize_call a r m n) ≡ Granted k u → n ≤ 262144
+    small : answered (C.resize_call a r m n) ≡ Ok (Granted k u) → n ≤ 262144
     small g = ⊎_elim
-        (λ j. absurd (let q : Refused N.Request ≡ Granted k u = sym (ap answered (resize-large-refused a r R.lent m n j)) ∙ g in let z : ◌≡◌ {A = ℕ} 0 1 = cc in omega arith))
+        (λ j. absurd (let q : (Err N.Request) ≡ (Ok (Granted k u)) = sym (ap answered (resize-large-refused a r R.lent m n j)) ∙ g in let z : ◌≡◌ {A = ℕ} 0 1 = cc in omega arith))
         (λ j. j) (lt-or-le 262144 n)
 
-pub resize-refused-spares : (s : State) → ReadyAt s → (m n : ℕ) (x : Refusal) (p : ℕ) → 1 ≤ held_at m (blocks_in s) → answer_to (Resize m n) s ≡ Refused x ∷ []
+pub resize-refused-spares : (s : State) → ReadyAt s → (m n : ℕ) (x : Refusal) (p : ℕ) → 1 ≤ held_at m (blocks_in s) → answer_to (Resize m n) s ≡ Err x ∷ []
     → ByteOf (heap_at s) m p → get_or (arena_in (next (Resize m n) s)) p 0 ≡ get_or (arena_in s) p 0
 unfolding next
 resize-refused-spares (state a r bs) R m n x p held e b =
     let y : C.After = C.resize_call a r m n in
-    let g : answered y ≡ Refused x = cc in
+    let g : answered y ≡ (Err x) = cc in
     spared a r bs R m held p b (resized m bs y) y (resized-arena m bs y) (resize-refused-keeps a r R.lent m n x g (m - 16) (live a r bs R m held))

@@ -1,6 +1,6 @@
 -- In a run no call is refused for shape or soundness, an audit finds no fault, an emptying and a joining are never refused, and a release exactly of what is
 -- not held: the live blocks are those granted and not yet released. Read off what holds between events. Assumes nothing.
-use Rattle.std.specs.Prelude.{◌≡◌, refl, List, [], ◌∷◌, ◌++◌, map, Bool, true, false, ℕ, ◌+◌, ◌-◌, ◌≤◌, eqb, leb, ltb}
+use Rattle.std.specs.Prelude.{◌≡◌, refl, List, [], ◌∷◌, ◌++◌, map, Bool, true, false, ℕ, ◌+◌, ◌-◌, ◌≤◌, eqb, leb, ltb, Option, Some, None, Ok, Err}
 use Rattle.std.proofs.Common.{sym, ap, ◌∙◌, subst, ⊎_elim, arith, lt-ltb, ne_eqb, leb-true, leb-false}
 use Rattle.le.specs.Arena.{arena_words}
 use Rattle.sizes.specs.Sizes.{need}
@@ -12,8 +12,7 @@ use Rattle.machine.specs.Grant.{grant}
 use Rattle.machine.specs.Resize.{resize}
 use Rattle.machine.specs.Audit.{audit_of}
 use Rattle.machine.specs.Calls as C
-use Rattle.machine.specs.declared.{Got.Got, Got.TheVariants.At, Got.TheVariants.Nothing, Answer.Answer}
-use Rattle.machine.specs.declared.Answer.TheVariants.{Done, Refused}
+use Rattle.machine.specs.declared.Answer.TheVariants.{Done}
 use Rattle.machine.specs.declared.Refusal.TheVariants as N
 use Rattle.sound.specs.Tiles.{lt-or-le, zero_or}
 use Rattle.sound.specs.Live.{loose-live}
@@ -26,6 +25,7 @@ use Rattle.history.specs.Demand3.{held?, LiveAt, AuditsAt, Fair, AllFair}
 use Rattle.history.specs.Ready.{held_at, Ready, ReadyAt}
 use Rattle.history.specs.Called.{grant-large, grant-called, release-called, job-called, Way, Null, Zero, Large, Dead, Through, way, resize_by, resize-called}
 use Rattle.history.proofs.Runs.{begin-ready, next-ready, run-ready}
+use Rattle.machine.specs.Calls.{Answered}
 
 -- ---- live is held
 held_none : (bs : List Block) (m : ℕ) → held_at m bs ≡ 0 → held? bs m ≡ false
@@ -70,26 +70,26 @@ ready-audits (state a r bs) R =
 abbrev FairOf : C.After → Type 0
 FairOf x = Fair (C.answer_numbers (answer_of x))
 
-fair-got : (a : List ℕ) (x : Ran Got) → FairOf (C.granted a x)
-fair-got a (ran g ws (At c)) = record { shape = λ e. omega arith; sound = λ e. omega arith }
-fair-got a (ran g ws Nothing) = record { shape = λ e. omega arith; sound = λ e. omega arith }
+fair-got : (a : List ℕ) (x : Ran (Option ℕ)) → FairOf (C.granted a x)
+fair-got a (ran g ws (Some c)) = record { shape = λ e. omega arith; sound = λ e. omega arith }
+fair-got a (ran g ws None) = record { shape = λ e. omega arith; sound = λ e. omega arith }
 
-pub done-answer : {A : Type 0} (a : List ℕ) (x : Ran A) → answer_of (C.done a x) ≡ Done
+pub done-answer : {A : Type 0} (a : List ℕ) (x : Ran A) → answer_of (C.done a x) ≡ Ok Done
 done-answer a (ran g ws y) = refl
 
 -- ---- the two jobs
-job-done : (f : Heap → Ran (Unit {0})) (a r : List ℕ) (bs : List Block) → Ready a r bs → answer_of (C.job_call f a r) ∷ [] ≡ Done ∷ []
-job-done f a r bs R = ap (λ (x : C.After). answer_of x ∷ []) (job-called a r R.lent R.sound f) ∙ ap (λ (x : Answer). x ∷ []) (done-answer a (f (C.heap_in a r)))
+job-done : (f : Heap → Ran (Unit {0})) (a r : List ℕ) (bs : List Block) → Ready a r bs → answer_of (C.job_call f a r) ∷ [] ≡ Ok Done ∷ []
+job-done f a r bs R = ap (λ (x : C.After). answer_of x ∷ []) (job-called a r R.lent R.sound f) ∙ ap (λ (x : Answered). x ∷ []) (done-answer a (f (C.heap_in a r)))
 
-emptying-done : (s : State) → ReadyAt s → answer_to Emptying s ≡ Done ∷ []
+emptying-done : (s : State) → ReadyAt s → answer_to Emptying s ≡ Ok Done ∷ []
 emptying-done (state a r bs) R = job-done emptying a r bs R
 
-joining-done : (s : State) → ReadyAt s → answer_to Joining s ≡ Done ∷ []
+joining-done : (s : State) → ReadyAt s → answer_to Joining s ≡ Ok Done ∷ []
 joining-done (state a r bs) R = job-done joining a r bs R
 
-done-numbers : (e : Event) (s : State) → answer_to e s ≡ Done ∷ [] → numbers (e ∷ []) s ≡ record { no = 0; mem = 0; usable = 0 } ∷ []
+done-numbers : (e : Event) (s : State) → answer_to e s ≡ Ok Done ∷ [] → numbers (e ∷ []) s ≡ record { no = 0; mem = 0; usable = 0 } ∷ []
 unfolding numbers answers
-done-numbers e s p = ap (λ (l : List Answer). map C.answer_numbers (l ++ [])) p
+done-numbers e s p = ap (λ (l : List Answered). map C.answer_numbers (l ++ [])) p
 
 pub emptying-numbers : (s : State) → ReadyAt s → numbers (Emptying ∷ []) s ≡ record { no = 0; mem = 0; usable = 0 } ∷ []
 emptying-numbers s R = done-numbers Emptying s (emptying-done s R)
@@ -98,15 +98,15 @@ pub joining-numbers : (s : State) → ReadyAt s → numbers (Joining ∷ []) s �
 joining-numbers s R = done-numbers Joining s (joining-done s R)
 
 -- a release answers by what is held
-abbrev pub release_answer : List Block → ℕ → Answer
-release_answer bs m = elim (either (eqb m 0) (held? bs m)) [ true ↦ Done | false ↦ Refused N.NotLive ]
+abbrev pub release_answer : List Block → ℕ → Answered
+release_answer bs m = elim (either (eqb m 0) (held? bs m)) [ true ↦ Ok Done | false ↦ Err N.NotLive ]
 
 pub release-answered : (a r : List ℕ) (bs : List Block) → Ready a r bs → (m : ℕ) → answer_of (C.release_call a r m) ≡ release_answer bs m
 release-answered a r bs R m = ap answer_of (release-called a r R.lent R.sound m) ∙ null (eqb m 0) refl
   where
     chunk : (t : Bool) → leb 16 m ≡ t
         → answer_of (elim (both t (live? (C.heap_in a r) (m - 16))) [ true ↦ C.done a (release (m - 16) (C.heap_in a r)) | false ↦ C.refused a r N.NotLive ])
-        ≡ elim (held? bs m) [ true ↦ Done | false ↦ Refused N.NotLive ]
+        ≡ elim (held? bs m) [ true ↦ Ok Done | false ↦ Err N.NotLive ]
     chunk true e = live (live? (C.heap_in a r) (m - 16)) refl
       where
         at : held? bs m ≡ live? (C.heap_in a r) (m - 16)
@@ -116,22 +116,22 @@ release-answered a r bs R m = ap answer_of (release-called a r R.lent R.sound m)
 
         live : (t : Bool) → live? (C.heap_in a r) (m - 16) ≡ t
             → answer_of (elim t [ true ↦ C.done a (release (m - 16) (C.heap_in a r)) | false ↦ C.refused a r N.NotLive ])
-            ≡ elim (held? bs m) [ true ↦ Done | false ↦ Refused N.NotLive ]
-        live true q = done-answer a (release (m - 16) (C.heap_in a r)) ∙ sym (ap (λ (t : Bool). elim t [ true ↦ Done | false ↦ Refused N.NotLive ]) (at ∙ q))
-        live false q = sym (ap (λ (t : Bool). elim t [ true ↦ Done | false ↦ Refused N.NotLive ]) (at ∙ q))
-    chunk false e = sym (ap (λ (t : Bool). elim t [ true ↦ Done | false ↦ Refused N.NotLive ]) (held_none bs m (R.holds.low m (leb-false 16 m e))))
+            ≡ elim (held? bs m) [ true ↦ Ok Done | false ↦ Err N.NotLive ]
+        live true q = done-answer a (release (m - 16) (C.heap_in a r)) ∙ sym (ap (λ (t : Bool). elim t [ true ↦ Ok Done | false ↦ Err N.NotLive ]) (at ∙ q))
+        live false q = sym (ap (λ (t : Bool). elim t [ true ↦ Ok Done | false ↦ Err N.NotLive ]) (at ∙ q))
+    chunk false e = sym (ap (λ (t : Bool). elim t [ true ↦ Ok Done | false ↦ Err N.NotLive ]) (held_none bs m (R.holds.low m (leb-false 16 m e))))
 
     null : (t : Bool) → eqb m 0 ≡ t → answer_of (elim t [
-      | true ↦ C.after a r Done
+      | true ↦ C.after a r (Ok Done)
       | false ↦ elim (both (leb 16 m) (live? (C.heap_in a r) (m - 16))) [ true ↦ C.done a (release (m - 16) (C.heap_in a r)) | false ↦ C.refused a r N.NotLive ]
-    ]) ≡ elim (either t (held? bs m)) [ true ↦ Done | false ↦ Refused N.NotLive ]
+    ]) ≡ elim (either t (held? bs m)) [ true ↦ Ok Done | false ↦ Err N.NotLive ]
     null true e = refl
     null false e = chunk (leb 16 m) refl
 
 fair-release : (bs : List Block) (m : ℕ) → Fair (C.answer_numbers (release_answer bs m))
 fair-release bs m = go (either (eqb m 0) (held? bs m))
   where
-    go : (t : Bool) → Fair (C.answer_numbers (elim t [ true ↦ Done | false ↦ Refused N.NotLive ]))
+    go : (t : Bool) → Fair (C.answer_numbers (elim t [ true ↦ Ok Done | false ↦ Err N.NotLive ]))
     go true = record { shape = λ e. omega arith; sound = λ e. omega arith }
     go false = record { shape = λ e. omega arith; sound = λ e. omega arith }
 
@@ -143,7 +143,7 @@ module _ (a r : List ℕ) (bs : List Block) (R : Ready a r bs) where
       (lt-or-le 262144 n)
 
   release-fair : (m : ℕ) → FairOf (C.release_call a r m)
-  release-fair m = subst (λ (x : Answer). Fair (C.answer_numbers x)) (sym (release-answered a r bs R m)) (fair-release bs m)
+  release-fair m = subst (λ (x : Answered). Fair (C.answer_numbers x)) (sym (release-answered a r bs R m)) (fair-release bs m)
 
   resize-fair : (m n : ℕ) → FairOf (C.resize_call a r m n)
   resize-fair m n =
@@ -157,10 +157,10 @@ module _ (a r : List ℕ) (bs : List Block) (R : Ready a r bs) where
       go (Dead z k l v) = record { shape = λ e. omega arith; sound = λ e. omega arith }
       go (Through z k l v) = fair-got a (resize (m - 16) (need n) (C.heap_in a r))
 
-abbrev AllFairOf : List Answer → Type 0
+abbrev AllFairOf : List Answered → Type 0
 AllFairOf xs = AllFair (map C.answer_numbers xs)
 
-done-fair : (e : Event) (s : State) → answer_to e s ≡ Done ∷ [] → AllFairOf (answer_to e s)
+done-fair : (e : Event) (s : State) → answer_to e s ≡ Ok Done ∷ [] → AllFairOf (answer_to e s)
 done-fair e s p = subst AllFairOf (sym p) (record { shape = λ e. omega arith; sound = λ e. omega arith }, tt)
 
 next-fair : (e : Event) (s : State) → ReadyAt s → AllFairOf (answer_to e s)
@@ -171,7 +171,7 @@ next-fair Emptying s R = done-fair Emptying s (emptying-done s R)
 next-fair Joining s R = done-fair Joining s (joining-done s R)
 next-fair (Store p v) (state a r bs) R = tt
 
-fair-append : (xs ys : List Answer) → AllFairOf xs → AllFairOf ys → AllFairOf (xs ++ ys)
+fair-append : (xs ys : List Answered) → AllFairOf xs → AllFairOf ys → AllFairOf (xs ++ ys)
 fair-append [] ys p q = q
 fair-append (x ∷ xs) ys p q = (p.0, fair-append xs ys p.1 q)
 

@@ -1,6 +1,6 @@
 -- Bytes that holders have written and live blocks have held ever since are the same in two runs that answer the same and hold the same blocks: a call changes no usable
 -- byte of a block that stays held, a resized block takes its bytes along, and a store writes the same byte in both. Assumes nothing.
-use Rattle.std.specs.Prelude.{◌≡◌, false, ◌⊎◌, ℕ, ◌+◌, ◌-◌, ◌%◌, ◌≤◌, ◌<◌, eqb, ltb, leb, length, set}
+use Rattle.std.specs.Prelude.{◌≡◌, false, ◌⊎◌, ℕ, ◌+◌, ◌-◌, ◌%◌, ◌≤◌, ◌<◌, eqb, ltb, leb, length, set, Ok, Err}
 use Rattle.std.proofs.Math.Path.{refl, sym, ap}
 use Rattle.std.proofs.Common.{◌∙◌, subst, inl, inr, arith, get_or-set_same, get_or-set_other, eqb-true, leb-true, ltb-true}
 use mathlib.Core.List.{List, [], ◌∷◌}
@@ -14,8 +14,7 @@ use Rattle.machine.specs.Heap.{Heap, starts, size_of, live?}
 use Rattle.machine.specs.Writes.{Ran, ran}
 use Rattle.machine.specs.Release.{release}
 use Rattle.machine.specs.Calls as C
-use Rattle.machine.specs.declared.Answer.{Answer}
-use Rattle.machine.specs.declared.Answer.TheVariants.{Done, Granted, Refused}
+use Rattle.machine.specs.declared.Answer.TheVariants.{Done, Granted}
 use Rattle.machine.specs.declared.Refusal.{Refusal}
 use Rattle.machine.specs.declared.Refusal.TheVariants as N
 use Rattle.sound.specs.Tiles.{lt-or-le}
@@ -27,6 +26,7 @@ use Rattle.history.specs.Ready.{held_at, Sized, Ready, ReadyAt, held-loose, held
 use Rattle.history.specs.Called.{release-called}
 use Rattle.history.specs.Stores.{Within, within}
 use Rattle.history.proofs.Spared.{Other, next-spares, resize-keeps, resize-refused-spares}
+use Rattle.machine.specs.Calls.{Answered}
 
 -- ---- the block that has a byte that the others do not have: the one dropped
 pub record Dropped (z : ℕ → ℕ) (m : ℕ) (bs : List Block) (p : ℕ) : Type 0 where
@@ -71,7 +71,7 @@ release-way a r bs R k = subst W (sym (release-called a r R.lent R.sound k)) (nu
     live false = inl refl
 
     null : (t : Bool) → W (elim t [
-      | true ↦ C.after a r Done
+      | true ↦ C.after a r (Ok Done)
       | false ↦ elim (both (leb 16 k) (live? (C.heap_in a r) (k - 16))) [
         | true ↦ C.done a (release (k - 16) (C.heap_in a r))
         | false ↦ C.refused a r N.NotLive
@@ -122,14 +122,14 @@ module _ (a r : List ℕ) (bs : List Block) (R : Ready a r bs) where
   resize-other : (m n p : ℕ) → holds? (drop m bs) p ≡ true → get_or (arena_in (next (Resize m n) (state a r bs))) p 0 ≡ get_or a p 0
   resize-other m n p l = other_byte (Resize m n) m (λ k o. o) p l
 
-  resize-along : (m n k u p : ℕ) → answer_to (Resize m n) (state a r bs) ≡ Granted k u ∷ [] → holds? bs p ≡ true → holds? (drop m bs) p ≡ false → p - m < u
+  resize-along : (m n k u p : ℕ) → answer_to (Resize m n) (state a r bs) ≡ Ok (Granted k u) ∷ [] → holds? bs p ≡ true → holds? (drop m bs) p ≡ false → p - m < u
       → get_or (arena_in (next (Resize m n) (state a r bs))) (k + (p - m)) 0 ≡ get_or a p 0
   resize-along m n k u p e was gone l =
       let D = dropped (λ c. size_of h c) m bs p R.holds.sizes was gone in
       let q : m + (p - m) ≡ p = omega (arith, D.low) in
       resize-keeps (state a r bs) R m n k u (p - m) D.held e (record { low = omega arith; high = omega (arith, q, D.high) }) l ∙ ap (λ (x : ℕ). get_or a x 0) q
 
-  resize-refused : (m n : ℕ) (x : Refusal) (p : ℕ) → answer_to (Resize m n) (state a r bs) ≡ Refused x ∷ [] → holds? bs p ≡ true
+  resize-refused : (m n : ℕ) (x : Refusal) (p : ℕ) → answer_to (Resize m n) (state a r bs) ≡ Err x ∷ [] → holds? bs p ≡ true
       → get_or (arena_in (next (Resize m n) (state a r bs))) p 0 ≡ get_or a p 0
   resize-refused m n x p e was =
       let O = of p was in
@@ -192,10 +192,10 @@ call_same e c s t R R' b b' (p ∷ ps) A = (
 )
 
 -- ---- a resize, with the same blocks and the same answer
-done-blocks : (m : ℕ) (bs : List Block) (x : C.After) → answer_of x ≡ Done → blocks_in (resized m bs x) ≡ drop m bs
-done-blocks m bs (C.after a r Done) e = refl
-done-blocks m bs (C.after a r (Granted k u)) e = absurd (let z : ◌≡◌ {A = ℕ} 0 1 = cc in omega arith)
-done-blocks m bs (C.after a r (Refused x)) e = absurd (let z : ◌≡◌ {A = ℕ} 0 1 = cc in omega arith)
+done-blocks : (m : ℕ) (bs : List Block) (x : C.After) → answer_of x ≡ Ok Done → blocks_in (resized m bs x) ≡ drop m bs
+done-blocks m bs (C.after a r (Ok Done)) e = refl
+done-blocks m bs (C.after a r (Ok (Granted k u))) e = absurd (let z : ◌≡◌ {A = ℕ} 0 1 = cc in omega arith)
+done-blocks m bs (C.after a r (Err x)) e = absurd (let z : ◌≡◌ {A = ℕ} 0 1 = cc in omega arith)
 
 module _ (m n : ℕ) (a r a' r' : List ℕ) (bs : List Block) (R : Ready a r bs) (R' : Ready a' r' bs) where
   abbrev s : State
@@ -210,7 +210,7 @@ module _ (m n : ℕ) (a r a' r' : List ℕ) (bs : List Block) (R : Ready a r bs)
   abbrev now' : State
   now' = next (Resize m n) (state a' r' bs)
 
-  done-same : answer_to (Resize m n) (state a r bs) ≡ Done ∷ [] → (ps : List ℕ) → AllSame ps s t → SameHeld ps now now'
+  done-same : answer_to (Resize m n) (state a r bs) ≡ Ok Done ∷ [] → (ps : List ℕ) → AllSame ps s t → SameHeld ps now now'
   unfolding next
   done-same e [] A = tt
   done-same e (p ∷ ps) A = (
@@ -220,7 +220,7 @@ module _ (m n : ℕ) (a r a' r' : List ℕ) (bs : List Block) (R : Ready a r bs)
     done-same e ps A.2,
   )
 
-  along-same : (k u : ℕ) → answer_to (Resize m n) s ≡ Granted k u ∷ [] → answer_to (Resize m n) t ≡ Granted k u ∷ [] → (ps : List ℕ) → AllSame ps s t
+  along-same : (k u : ℕ) → answer_to (Resize m n) s ≡ Ok (Granted k u) ∷ [] → answer_to (Resize m n) t ≡ Ok (Granted k u) ∷ [] → (ps : List ℕ) → AllSame ps s t
       → SameHeld (along m k u (drop m bs) ps) now now'
   along-same k u e e' [] A = tt
   along-same k u e e' (p ∷ ps) A = go (along-same k u e e' ps A.2) (holds? (drop m bs) p) refl (ltb (p - m) u) refl
@@ -236,7 +236,7 @@ module _ (m n : ℕ) (a r a' r' : List ℕ) (bs : List Block) (R : Ready a r bs)
           (λ held. resize-along a r bs R m n k u p e A.0 x l ∙ A.1 ∙ sym (resize-along a' r' bs R' m n k u p e' A.0 x l), rest)
       go rest false x false j = rest
 
-  refused-same : (x : Refusal) → answer_to (Resize m n) s ≡ Refused x ∷ [] → answer_to (Resize m n) t ≡ Refused x ∷ [] → (ps : List ℕ) → AllSame ps s t → SameHeld ps now now'
+  refused-same : (x : Refusal) → answer_to (Resize m n) s ≡ Err x ∷ [] → answer_to (Resize m n) t ≡ Err x ∷ [] → (ps : List ℕ) → AllSame ps s t → SameHeld ps now now'
   refused-same x e e' [] A = tt
   refused-same x e e' (p ∷ ps) A =
       (λ held. resize-refused a r bs R m n x p e A.0 ∙ A.1 ∙ sym (resize-refused a' r' bs R' m n x p e' A.0), refused-same x e e' ps A.2)
@@ -245,10 +245,10 @@ module _ (m n : ℕ) (a r a' r' : List ℕ) (bs : List Block) (R : Ready a r bs)
       → SameHeld (resized_by m bs (answer_of (C.resize_call a r m n)) ps) now now'
   resized-same told ps A = go (answer_of (C.resize_call a r m n)) refl
     where
-      go : (y : Answer) → answer_to (Resize m n) s ≡ y ∷ [] → SameHeld (resized_by m bs y ps) now now'
-      go Done e = done-same e ps A
-      go (Granted k u) e = along-same k u e (sym told ∙ e) ps A
-      go (Refused x) e = refused-same x e (sym told ∙ e) ps A
+      go : (y : Answered) → answer_to (Resize m n) s ≡ y ∷ [] → SameHeld (resized_by m bs y ps) now now'
+      go (Ok Done) e = done-same e ps A
+      go (Ok (Granted k u)) e = along-same k u e (sym told ∙ e) ps A
+      go (Err x) e = refused-same x e (sym told ∙ e) ps A
 
 resize-event : (m n : ℕ) (s t : State) → ReadyAt s → ReadyAt t → answer_to (Resize m n) s ≡ answer_to (Resize m n) t → blocks_in s ≡ blocks_in t → (ps : List ℕ) → AllSame ps s t
     → SameHeld (stored (Resize m n) s ps) (next (Resize m n) s) (next (Resize m n) t)

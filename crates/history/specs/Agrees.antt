@@ -1,11 +1,10 @@
 -- What agrees after the same events in two arenas: every answer, the records but for a part, the blocks held, and each byte that a holder has written and a live
 -- block has held ever since. Definitions only; that it holds of heaps that are alike stands in AgreesHold.
-use Rattle.std.specs.Prelude.{◌≡◌, List, [], ◌∷◌, true, false, ℕ, ◌+◌, ◌-◌, ◌≤◌, ltb, get_or}
+use Rattle.std.specs.Prelude.{◌≡◌, List, [], ◌∷◌, true, false, ℕ, ◌+◌, ◌-◌, ◌≤◌, ltb, get_or, Ok, Err}
 use Rattle.std.proofs.Math.ListN as L
 use Rattle.machine.specs.Lists.{cnt}
-use Rattle.machine.specs.Calls.{resize_call}
-use Rattle.machine.specs.declared.Answer.{Answer}
-use Rattle.machine.specs.declared.Answer.TheVariants.{Done, Granted, Refused}
+use Rattle.machine.specs.Calls.{resize_call, Answered}
+use Rattle.machine.specs.declared.Answer.TheVariants.{Done, Granted}
 use Rattle.machine.specs.declared.HeapAnswer.{HeapAnswer}
 use Rattle.history.specs.Histories.{Event, Grant, Release, Resize, Emptying, Joining, Store, Block, holds?, drop, State, state, arena_in, record_in, blocks_in, next, run, answer_of, answers}
 
@@ -33,10 +32,10 @@ along m k u bs (p ∷ ps) = elim (holds? bs p) [
 ]
 
 -- (a resize that answers no block, refused or of length 0, moves none)
-abbrev pub resized_by : ℕ → List Block → Answer → List ℕ → List ℕ
-resized_by m bs Done ps = ps
-resized_by m bs (Granted k u) ps = along m k u (drop m bs) ps
-resized_by m bs (Refused x) ps = ps
+abbrev pub resized_by : ℕ → List Block → Answered → List ℕ → List ℕ
+resized_by m bs (Ok Done) ps = ps
+resized_by m bs (Ok (Granted k u)) ps = along m k u (drop m bs) ps
+resized_by m bs (Err x) ps = ps
 
 abbrev pub stored : Event → State → List ℕ → List ℕ
 stored (Grant n) s ps = ps

@@ -1,6 +1,6 @@
 -- The calls on bytes that are lent and sound: none is refused for shape or soundness, so each is its step on the heap that is read, and a resize one of its
 -- ways. By the audit's completeness. Assumes nothing.
-use Rattle.std.specs.Prelude.{◌≡◌, refl, List, [], ◌∷◌, Bool, ℕ, ◌-◌, ◌%◌, ◌≤◌, ◌<◌, eqb, ltb, leb, length}
+use Rattle.std.specs.Prelude.{◌≡◌, refl, List, [], ◌∷◌, Bool, ℕ, ◌-◌, ◌%◌, ◌≤◌, ◌<◌, eqb, ltb, leb, length, Ok}
 use Rattle.std.proofs.Common.{sym, ◌∙◌, ⊎_elim}
 use Rattle.std.proofs.Math.Path.{ap}
 use Rattle.std.proofs.Math.Bool.{true, false}
@@ -40,7 +40,7 @@ if : (t : Bool) (x y : After) → After
 if t x y = elim t [ true ↦ x | false ↦ y ]
 
 pub open_lent : (a r : List ℕ) (q : Choice) → Lent a r → Allowed q
-    → open_call a r q.key q.edition ≡ left a (opened (length a) q.key q.edition) (size 0 (length a) 1 ∷ []) Done
+    → open_call a r q.key q.edition ≡ left a (opened (length a) q.key q.edition) (size 0 (length a) 1 ∷ []) (Ok Done)
 open_lent a r q L k = sym (open-called a r q.key q.edition L k.edition)
 
 -- ---- the ways through a resize of m to n on a heap h: null is a grant; else a new length of 0 is a release; else numbers 2 and 4; else its steps
@@ -98,7 +98,7 @@ module _ (a r : List ℕ) (L : Lent a r) (S : Sound (heap_in a r) (arena_words a
       ∙ on-sound (λ h. granted a (grant (need n) h))
 
   pub release-called : (m : ℕ) → release_call a r m ≡ elim (eqb m 0) [
-    | true ↦ after a r Done
+    | true ↦ after a r (Ok Done)
     | false ↦ elim (both (leb 16 m) (live? (heap_in a r) (m - 16))) [
       | true ↦ done a (release (m - 16) (heap_in a r))
       | false ↦ refused a r R.NotLive
@@ -106,7 +106,7 @@ module _ (a r : List ℕ) (L : Lent a r) (S : Sound (heap_in a r) (arena_words a
   ]
   unfolding release_call
   release-called m = on-sound (λ h. elim (eqb m 0) [
-    | true ↦ after a r Done
+    | true ↦ after a r (Ok Done)
     | false ↦ elim (both (leb 16 m) (live? h (m - 16))) [
       | true ↦ done a (release (m - 16) h)
       | false ↦ refused a r R.NotLive

@@ -1,7 +1,7 @@
 -- Two heaps that are equal but for what was chosen at their opens, the key and the edition: every step of grant, release, resize, emptying and joining leaves two
 -- such again and answers the same, whatever the two choices are. The top's size is the same, so the steps that ask for it need no premise; the others are Like's.
 -- Assumes nothing.
-use Rattle.std.specs.Prelude.{◌≡◌, eqb, ltb, leb, length}
+use Rattle.std.specs.Prelude.{◌≡◌, eqb, ltb, leb, length, Option, Some, None}
 use Rattle.std.proofs.Math.Path.{refl}
 use Rattle.std.proofs.Common.{sym, subst, arith}
 use Prim.Native.Nat.{ℕ, ◌+◌, ◌-◌, ◌/◌}
@@ -14,7 +14,6 @@ use Rattle.machine.specs.Primitives.{take_cache, unlink, widen, trim_at}
 use Rattle.machine.specs.Release.{absorb, join_next, put_down, join, consolidate, joined, release_past, release, emptying, joining}
 use Rattle.machine.specs.Grant.{step1, step2, step3, step4, step9, pass, again, from4, seek, grant}
 use Rattle.machine.specs.Resize.{next_p, finish, copies, moved, resize}
-use Rattle.machine.specs.declared.{Got.Got, Got.TheVariants.At, Got.TheVariants.Nothing}
 use Rattle.history.specs.Histories.{Choice}
 use Rattle.history.specs.Like.{Given, with_given, Like, like-more, like-giving, like-then, like-else, like-if, join_next-kin, step1-like, step2-like, step3-like, step4-like, drains-like, consolidate-like, joining-like, five, five-like}
 
@@ -123,17 +122,17 @@ module _ (q : Choice) where
   widened-chosen : (c b : ℕ) (h : Heap) → Chosen (widen c h >>= (λ h. finish c b h)) (widen c (with_choice q h) >>= (λ h. finish c b h))
   widened-chosen c b h = like-then w (λ h. finish c b h) (widen c h) (widen c (with_choice q h)) refl (finish-chosen c b)
 
-  moved-chosen : (c b z : ℕ) (x x' : Ran Got) → Chosen x x' → Chosen (moved c b z x) (moved c b z x')
-  moved-chosen c b z (ran h ws Nothing) (ran h' ws' Nothing) l = l
-  moved-chosen c b z (ran h ws Nothing) (ran h' ws' (At d)) l = absurd (let y : ◌≡◌ {A = ℕ} 0 1 = cc in omega arith)
-  moved-chosen c b z (ran h ws (At d)) (ran h' ws' Nothing) l = absurd (let y : ◌≡◌ {A = ℕ} 0 1 = cc in omega arith)
-  moved-chosen c b z (ran h ws (At d)) (ran h' ws' (At d')) l =
+  moved-chosen : (c b z : ℕ) (x x' : Ran (Option ℕ)) → Chosen x x' → Chosen (moved c b z x) (moved c b z x')
+  moved-chosen c b z (ran h ws None) (ran h' ws' None) l = l
+  moved-chosen c b z (ran h ws None) (ran h' ws' (Some d)) l = absurd (let y : ◌≡◌ {A = ℕ} 0 1 = cc in omega arith)
+  moved-chosen c b z (ran h ws (Some d)) (ran h' ws' None) l = absurd (let y : ◌≡◌ {A = ℕ} 0 1 = cc in omega arith)
+  moved-chosen c b z (ran h ws (Some d)) (ran h' ws' (Some d')) l =
       let e : d' ≡ d = cc in
-      subst (λ (g : Heap). Chosen (moved c b z (ran h ws (At d))) (moved c b z (ran g ws' (At d')))) (sym l.heap)
-      (subst (λ (y : ℕ). Chosen (moved c b z (ran h ws (At d))) (moved c b z (ran (with_choice q h) ws' (At y)))) (sym e)
+      subst (λ (g : Heap). Chosen (moved c b z (ran h ws (Some d))) (moved c b z (ran g ws' (Some d')))) (sym l.heap)
+      (subst (λ (y : ℕ). Chosen (moved c b z (ran h ws (Some d))) (moved c b z (ran (with_choice q h) ws' (Some y)))) (sym e)
       (like-more w ws ws' _ _ (like-if w (eqb d (c + z)) _ _ _ _
-      (λ e. like-giving w (At c) (widened-chosen c b h))
-      (λ e. like-giving w (At d)
+      (λ e. like-giving w (Some c) (widened-chosen c b h))
+      (λ e. like-giving w (Some d)
       (like-then w (release c) (does h (copies d c (z / 8 - 1))) (does (with_choice q h) (copies d c (z / 8 - 1))) refl (release-chosen c))))))
 
   pub resize-chosen : (c b : ℕ) (h : Heap) → Chosen (resize c b h) (resize c b (with_choice q h))
@@ -141,10 +140,10 @@ module _ (q : Choice) where
   resize-chosen c b h =
       let x : ℕ = next h c in
       like-if w (leb b (size_of h c)) _ _ _ _
-      (λ e. like-giving w (At c) (finish-chosen c b h))
+      (λ e. like-giving w (Some c) (finish-chosen c b h))
       (λ e. like-if w (both (eqb x (top_of h)) (leb (b + 32) (size_of h c + top_size h))) _ _ _ _
       (λ e. record { heap = refl; says = refl })
       (λ e. like-if w (both (ltb 0 (binned h x)) (leb b (size_of h c + size_of h x))) _ _ _ _
-      (λ e. like-giving w (At c)
+      (λ e. like-giving w (Some c)
       (like-then w (λ h. widen c h >>= (λ h. finish c b h)) (unlink (bin_has h x) x h) (unlink (bin_has h x) x (with_choice q h)) refl (widened-chosen c b)))
       (λ e. moved-chosen c b (size_of h c) (seek b h) (seek b (with_choice q h)) (seek-chosen b h))))

@@ -1,12 +1,12 @@
 -- Histories: any bytes, an open, then any calls, and holders that write in the usable bytes of blocks they hold. Over the calls on bytes themselves.
 -- Definitions only.
-use Rattle.std.specs.Prelude.{◌≡◌, List, [], ◌∷◌, ◌++◌, map, Bool, true, false, ℕ, ◌+◌, ◌%◌, ◌^◌, ◌<◌, eqb, ltb, leb, set}
+use Rattle.std.specs.Prelude.{◌≡◌, List, [], ◌∷◌, ◌++◌, map, Bool, true, false, ℕ, ◌+◌, ◌%◌, ◌^◌, ◌<◌, eqb, ltb, leb, set, Ok, Err}
 use Rattle.machine.specs.Lists.{both, either}
 use Rattle.machine.specs.Heap.{Heap}
 use Rattle.machine.specs.Audit.{edition?}
-use Rattle.machine.specs.Calls.{After, after, answer_numbers, heap_in, open_call, grant_call, release_call, resize_call, emptying_call, joining_call}
-use Rattle.machine.specs.declared.{Answer.Answer, HeapAnswer.HeapAnswer}
-use Rattle.machine.specs.declared.Answer.TheVariants.{Done, Granted, Refused}
+use Rattle.machine.specs.Calls.{After, after, answer_numbers, heap_in, open_call, grant_call, release_call, resize_call, emptying_call, joining_call, Answered}
+use Rattle.machine.specs.declared.{HeapAnswer.HeapAnswer}
+use Rattle.machine.specs.declared.Answer.TheVariants.{Done, Granted}
 
 -- what happens: a call with any numbers, or a holder's write of a byte at an offset of the arena. A resize has a mem and the new length
 pub data Event : Type 0 where
@@ -53,20 +53,20 @@ abbrev pub heap_at : State → Heap
 heap_at (state a r bs) = heap_in a r
 
 abbrev pub granted : List Block → After → State
-granted bs (after a r Done) = state a r bs
-granted bs (after a r (Granted m u)) = state a r (record { mem = m; usable = u } ∷ bs)
-granted bs (after a r (Refused x)) = state a r bs
+granted bs (after a r (Ok Done)) = state a r bs
+granted bs (after a r (Ok (Granted m u))) = state a r (record { mem = m; usable = u } ∷ bs)
+granted bs (after a r (Err x)) = state a r bs
 
 abbrev pub released : ℕ → List Block → After → State
-released m bs (after a r Done) = state a r (drop m bs)
-released m bs (after a r (Granted n u)) = state a r bs
-released m bs (after a r (Refused x)) = state a r bs
+released m bs (after a r (Ok Done)) = state a r (drop m bs)
+released m bs (after a r (Ok (Granted n u))) = state a r bs
+released m bs (after a r (Err x)) = state a r bs
 
 -- a resized block is dropped and the one granted is held instead, moved or not. (Null drops none: no block is held at mem 0)
 abbrev pub resized : ℕ → List Block → After → State
-resized m bs (after a r Done) = state a r (drop m bs)
-resized m bs (after a r (Granted k u)) = state a r (record { mem = k; usable = u } ∷ drop m bs)
-resized m bs (after a r (Refused x)) = state a r bs
+resized m bs (after a r (Ok Done)) = state a r (drop m bs)
+resized m bs (after a r (Ok (Granted k u))) = state a r (record { mem = k; usable = u } ∷ drop m bs)
+resized m bs (after a r (Err x)) = state a r bs
 
 -- the blocks held are kept
 abbrev pub kept : List Block → After → State
@@ -86,10 +86,10 @@ run [] s = s
 run (e ∷ es) s = run es (next e s)
 
 -- what the calls of a run answer, in order
-abbrev pub answer_of : After → Answer
+abbrev pub answer_of : After → Answered
 answer_of (after a r x) = x
 
-abbrev pub answer_to : Event → State → List Answer
+abbrev pub answer_to : Event → State → List Answered
 answer_to (Grant n) (state a r bs) = answer_of (grant_call a r n) ∷ []
 answer_to (Release m) (state a r bs) = answer_of (release_call a r m) ∷ []
 answer_to (Resize m n) (state a r bs) = answer_of (resize_call a r m n) ∷ []
@@ -97,7 +97,7 @@ answer_to Emptying (state a r bs) = answer_of (emptying_call a r) ∷ []
 answer_to Joining (state a r bs) = answer_of (joining_call a r) ∷ []
 answer_to (Store p v) (state a r bs) = []
 
-unfoldable pub answers : List Event → State → List Answer
+unfoldable pub answers : List Event → State → List Answered
 answers [] s = []
 answers (e ∷ es) s = answer_to e s ++ answers es (next e s)
 

@@ -1,7 +1,7 @@
 -- Two heaps that are equal but for what they were given when they were opened, the length and the choice of key and edition: every step of grant, release, emptying
 -- and joining leaves two such again and answers the same, as long as the top is not asked for its size. A step asks for it in two places: step 9, and what a joining
 -- yields. Through the steps in their order. Assumes nothing.
-use Rattle.std.specs.Prelude.{◌≡◌, Bool, eqb, ltb, leb, length}
+use Rattle.std.specs.Prelude.{◌≡◌, Bool, eqb, ltb, leb, length, Option, Some, None}
 use Rattle.std.proofs.Math.Path.{refl, sym, ap, subst}
 use Rattle.std.proofs.Common.{◌∙◌, arith, le-leb, ltb-false}
 use mathlib.Core.List.{List, [], ◌∷◌, ◌++◌, append_assoc}
@@ -16,7 +16,7 @@ use Rattle.machine.specs.Writes.{Write, Ran, ran, heap_of, giving, more, ◌>>=�
 use Rattle.machine.specs.Primitives.{pop, push_cache, take_cache, unlink, set_p, cut_top, set_remainder}
 use Rattle.machine.specs.Release.{absorb, join_next, put_down, join, drain, drains, consolidate, joined, release_past, release, emptying, joining}
 use Rattle.machine.specs.Grant.{room_for?, step1, move_fast, step2, take_last, move_lasts, step3, step4, split, sort_in, lone?, split_lone, keep, turn_at, turn, swept, after_turn, sweep, step5, carve, step8, fit, step6, first_bin, step7, step9, pass, again, from4, seek, grant}
-use Rattle.machine.specs.declared.{Got.Got, Got.TheVariants.At, Got.TheVariants.Nothing, Turn.Turn}
+use Rattle.machine.specs.declared.{Turn.Turn}
 use Rattle.machine.specs.declared.Turn.TheVariants as T
 use Rattle.history.specs.Histories.{Choice}
 
@@ -54,21 +54,21 @@ module _ (w : Given → Given) where
       → Like w (x >>= f) (x' >>= f)
   like-then f (ran h ws a) (ran h' ws' a') e k = like-more ws ws' (f h) (f h') (subst (λ (g : Heap). Like w (f h) (f g)) (sym e) (k h))
 
-  pub like-else : (f : Heap → Ran Got) (x x' : Ran Got) → Like w x x' → ((g : Heap) → Like w (f g) (f (with_given w g))) → Like w (x or_else f) (x' or_else f)
-  like-else f (ran h ws (At c)) (ran h' ws' (At c')) l k = l
-  like-else f (ran h ws Nothing) (ran h' ws' Nothing) l k = like-then f (ran h ws Nothing) (ran h' ws' Nothing) l.heap k
-  like-else f (ran h ws (At c)) (ran h' ws' Nothing) l k = absurd (let z : ◌≡◌ {A = ℕ} 0 1 = cc in omega arith)
-  like-else f (ran h ws Nothing) (ran h' ws' (At c')) l k = absurd (let z : ◌≡◌ {A = ℕ} 0 1 = cc in omega arith)
+  pub like-else : (f : Heap → Ran (Option ℕ)) (x x' : Ran (Option ℕ)) → Like w x x' → ((g : Heap) → Like w (f g) (f (with_given w g))) → Like w (x or_else f) (x' or_else f)
+  like-else f (ran h ws (Some c)) (ran h' ws' (Some c')) l k = l
+  like-else f (ran h ws None) (ran h' ws' None) l k = like-then {A = Option ℕ} f (ran h ws None) (ran h' ws' None) l.heap k
+  like-else f (ran h ws (Some c)) (ran h' ws' None) l k = absurd (let z : ◌≡◌ {A = ℕ} 0 1 = cc in omega arith)
+  like-else f (ran h ws None) (ran h' ws' (Some c')) l k = absurd (let z : ◌≡◌ {A = ℕ} 0 1 = cc in omega arith)
 
   pub like-if : {A : Type 0} (t : Bool) (x y x' y' : Ran A) → (t ≡ true → Like w x x') → (t ≡ false → Like w y y')
       → Like {A = A} w (elim t [ true ↦ x | false ↦ y ]) (elim t [ true ↦ x' | false ↦ y' ])
   like-if true x y x' y' p q = p refl
   like-if false x y x' y' p q = q refl
 
-  like-got : {A : Type 0} (t : Got) (x x' : ℕ → Ran A) (y y' : Ran A) → ((c : ℕ) → Like w (x c) (x' c)) → Like w y y'
-      → Like {A = A} w (elim t [ At c ↦ x c | Nothing ↦ y ]) (elim t [ At c ↦ x' c | Nothing ↦ y' ])
-  like-got (At c) x x' y y' p q = p c
-  like-got Nothing x x' y y' p q = q
+  like-got : {A : Type 0} (t : Option ℕ) (x x' : ℕ → Ran A) (y y' : Ran A) → ((c : ℕ) → Like w (x c) (x' c)) → Like w y y'
+      → Like {A = A} w (elim t [ Some c ↦ x c | None ↦ y ]) (elim t [ Some c ↦ x' c | None ↦ y' ])
+  like-got (Some c) x x' y y' p q = p c
+  like-got None x x' y y' p q = q
 
   -- ---- 1, 2 and 3
   module _ (b : ℕ) where
@@ -87,7 +87,7 @@ module _ (w : Given → Given) where
     pub step2-like : (h : Heap) → Like w (step2 b h) (step2 b (with_given w h))
     unfolding step2
     step2-like h = like-if (both (leb b most_fast) (some? (fast h (fast_of b)))) _ _ _ _
-        (λ e. like-giving (At (hd none64 (fast h (fast_of b))))
+        (λ e. like-giving (Some (hd none64 (fast h (fast_of b))))
         (like-then (λ h. move_fast b (fast h (fast_of b)) h) (pop (fast_at (fast_of b)) h) (pop (fast_at (fast_of b)) (with_given w h)) refl (λ g. move_fast-like (fast g (fast_of b)) g)))
         (λ e. record { heap = refl; says = refl })
 
@@ -110,7 +110,7 @@ module _ (w : Given → Given) where
     step3-like h =
         let c : ℕ = lst none64 (bin h (bin_of b)) in
         like-if (both (ltb b large) (some? (bin h (bin_of b)))) _ _ _ _
-        (λ e. like-giving (At c)
+        (λ e. like-giving (Some c)
         (like-then (λ h. move_lasts (length (bin h (bin_of b))) b h) (take_last (bin_of b) c h) (take_last (bin_of b) c (with_given w h)) (take_last-like (bin_of b) c h).heap
         (λ g. move_lasts-like (length (bin g (bin_of b))) g)))
         (λ e. record { heap = refl; says = refl })
@@ -147,7 +147,7 @@ module _ (w : Given → Given) where
       rest q g = kin-then (λ g. put_down q g) (join_next q g) (join_next q (with_given w g)) (join_next-kin q g) (put_down-kin q)
 
   -- ---- stacks emptied, by a taking step and a step with each chunk that keep the heaps kin
-  module _ (t : ℕ → Heap → Ran Got) (f : ℕ → Heap → Ran ℕ) (takes : (k : ℕ) (h : Heap) → Kin (t k h) (t k (with_given w h)))
+  module _ (t : ℕ → Heap → Ran (Option ℕ)) (f : ℕ → Heap → Ran ℕ) (takes : (k : ℕ) (h : Heap) → Kin (t k h) (t k (with_given w h)))
       (each : (c : ℕ) (h : Heap) → Kin (f c h) (f c (with_given w h))) where
     drain-like : (k : ℕ) (l : List ℕ) (h : Heap) → Like w (drain t f k l h) (drain t f k l (with_given w h))
     unfolding drain
@@ -210,12 +210,12 @@ module _ (w : Given → Given) where
     unfolding swept
     swept-like got h = like-if got _ _ _ _ (λ e. record { heap = refl; says = refl }) (λ e. record { heap = refl; says = refl })
 
-    after-like : (x x' : Ran Turn) (k s o : Heap → Ran Got) → Like w x x' → ((g : Heap) → Like w (k g) (k (with_given w g))) → ((g : Heap) → Like w (s g) (s (with_given w g)))
+    after-like : (x x' : Ran Turn) (k s o : Heap → Ran (Option ℕ)) → Like w x x' → ((g : Heap) → Like w (k g) (k (with_given w g))) → ((g : Heap) → Like w (s g) (s (with_given w g)))
         → ((g : Heap) → Like w (o g) (o (with_given w g))) → Like w (after_turn x k s o) (after_turn x' k s o)
     after-like (ran h ws (T.Granted c)) x' k s o l p q r = granted x' l
       where
-        granted : (x' : Ran Turn) → Like w (ran h ws (T.Granted c)) x' → Like w (ran h ws (At c)) (after_turn x' k s o)
-        granted (ran h' ws' (T.Granted c')) l = record { heap = l.heap; says = let z : c' ≡ c = cc in ap At z }
+        granted : (x' : Ran Turn) → Like w (ran h ws (T.Granted c)) x' → Like w (ran h ws (Some c)) (after_turn x' k s o)
+        granted (ran h' ws' (T.Granted c')) l = record { heap = l.heap; says = let z : c' ≡ c = cc in ap Some z }
         granted (ran h' ws' T.Cached) l = absurd (let z : ◌≡◌ {A = ℕ} 0 1 = cc in omega arith)
         granted (ran h' ws' T.Binned) l = absurd (let z : ◌≡◌ {A = ℕ} 0 1 = cc in omega arith)
         granted (ran h' ws' T.Empty) l = absurd (let z : ◌≡◌ {A = ℕ} 0 1 = cc in omega arith)
@@ -261,7 +261,7 @@ module _ (w : Given → Given) where
 
     step8-like : (j c : ℕ) (new? : Bool) (h : Heap) → Like w (step8 j c b new? h) (step8 j c b new? (with_given w h))
     unfolding step8
-    step8-like j c new? h = like-giving (At c) (like-then (λ h. carve c b new? h) (unlink j c h) (unlink j c (with_given w h)) refl (carve-like c new?))
+    step8-like j c new? h = like-giving (Some c) (like-then (λ h. carve c b new? h) (unlink j c h) (unlink j c (with_given w h)) refl (carve-like c new?))
 
     step6-like : (h : Heap) → Like w (step6 b h) (step6 b (with_given w h))
     unfolding step6
@@ -272,52 +272,52 @@ module _ (w : Given → Given) where
 
     first_bin-same : (m j : ℕ) (h : Heap) → first_bin m j (with_given w h) ≡ first_bin m j h
     first_bin-same zero j h = refl
-    first_bin-same (suc m) j h = ap (λ (g : Got). elim (some? (bin h j)) [ true ↦ At j | false ↦ g ]) (first_bin-same m (suc j) h)
+    first_bin-same (suc m) j h = ap (λ (g : Option ℕ). elim (some? (bin h j)) [ true ↦ Some j | false ↦ g ]) (first_bin-same m (suc j) h)
 
     step7-like : (h : Heap) → Like w (step7 b h) (step7 b (with_given w h))
     unfolding step7
-    step7-like h = subst (λ (t : Got). Like w (step7 b h) (elim t [ At j ↦ step8 j (lst none64 (bin h j)) b (ltb b large) (with_given w h) | Nothing ↦ nothing (with_given w h) ]))
+    step7-like h = subst (λ (t : Option ℕ). Like w (step7 b h) (elim t [ Some j ↦ step8 j (lst none64 (bin h j)) b (ltb b large) (with_given w h) | None ↦ nothing (with_given w h) ]))
         (sym (first_bin-same (last_bin - bin_of b) (suc (bin_of b)) h))
         (like-got (first_bin (last_bin - bin_of b) (suc (bin_of b)) h) (λ j. step8 j (lst none64 (bin h j)) b (ltb b large) h) (λ j. step8 j (lst none64 (bin h j)) b (ltb b large) (with_given w h)) _ _
         (λ j. step8-like j (lst none64 (bin h j)) (ltb b large) h) (record { heap = refl; says = refl }))
 
 -- ---- "finds the top short in step 9": the steps before it find nothing, and the top that they leave is under b+32
 -- the steps of grant before step 9
-unfoldable pub up_to9 : ℕ → Heap → Ran Got
+unfoldable pub up_to9 : ℕ → Heap → Ran (Option ℕ)
 up_to9 b h = step1 b h or_else step2 b or_else step3 b or_else (λ h. step4 b h >>= (λ h. step5 b h or_else step6 b or_else step7 b))
 
-abbrev pub short? : ℕ → Ran Got → Bool
-short? b (ran h ws (At c)) = false
-short? b (ran h ws Nothing) = ltb (top_size h) (b + 32)
+abbrev pub short? : ℕ → Ran (Option ℕ) → Bool
+short? b (ran h ws (Some c)) = false
+short? b (ran h ws None) = ltb (top_size h) (b + 32)
 
 -- ---- grant is those steps, then step 9, then the consolidation that goes to 5
 more-more : {A : Type 0} (ws vs : List Write) (x : Ran A) → more ws (more vs x) ≡ more (ws ++ vs) x
 more-more ws vs (ran h us a) = ap (λ (l : List Write). ran h l a) (sym (append_assoc ws vs us))
 
-else-more : (ws : List Write) (x : Ran Got) (f : Heap → Ran Got) → (more ws x or_else f) ≡ more ws (x or_else f)
-else-more ws (ran h vs (At c)) f = refl
-else-more ws (ran h vs Nothing) f = sym (more-more ws vs (f h))
+else-more : (ws : List Write) (x : Ran (Option ℕ)) (f : Heap → Ran (Option ℕ)) → (more ws x or_else f) ≡ more ws (x or_else f)
+else-more ws (ran h vs (Some c)) f = refl
+else-more ws (ran h vs None) f = sym (more-more ws vs (f h))
 
-else-else : (x : Ran Got) (f g : Heap → Ran Got) → (x or_else f or_else g) ≡ (x or_else (λ h. f h or_else g))
-else-else (ran h ws (At c)) f g = refl
-else-else (ran h ws Nothing) f g = else-more ws (f h) g
+else-else : (x : Ran (Option ℕ)) (f g : Heap → Ran (Option ℕ)) → (x or_else f or_else g) ≡ (x or_else (λ h. f h or_else g))
+else-else (ran h ws (Some c)) f g = refl
+else-else (ran h ws None) f g = else-more ws (f h) g
 
-then-else : {A : Type 0} (x : Ran A) (f g : Heap → Ran Got) → ((x >>= f) or_else g) ≡ (x >>= (λ h. f h or_else g))
+then-else : {A : Type 0} (x : Ran A) (f g : Heap → Ran (Option ℕ)) → ((x >>= f) or_else g) ≡ (x >>= (λ h. f h or_else g))
 then-else (ran h ws a) f g = else-more ws (f h) g
 
-else-by : (x : Ran Got) (f g : Heap → Ran Got) → ((h : Heap) → f h ≡ g h) → (x or_else f) ≡ (x or_else g)
-else-by (ran h ws (At c)) f g e = refl
-else-by (ran h ws Nothing) f g e = ap (more ws) (e h)
+else-by : (x : Ran (Option ℕ)) (f g : Heap → Ran (Option ℕ)) → ((h : Heap) → f h ≡ g h) → (x or_else f) ≡ (x or_else g)
+else-by (ran h ws (Some c)) f g e = refl
+else-by (ran h ws None) f g e = ap (more ws) (e h)
 
-then_by : {A : Type 0} (x : Ran A) (f g : Heap → Ran Got) → ((h : Heap) → f h ≡ g h) → (x >>= f) ≡ (x >>= g)
+then_by : {A : Type 0} (x : Ran A) (f g : Heap → Ran (Option ℕ)) → ((h : Heap) → f h ≡ g h) → (x >>= f) ≡ (x >>= g)
 then_by (ran h ws a) f g e = ap (more ws) (e h)
 
 module _ (b : ℕ) where
-  abbrev last : Heap → Ran Got
+  abbrev last : Heap → Ran (Option ℕ)
   last h = step9 b h or_else again b
 
   -- 5 to 7
-  abbrev pub five : Heap → Ran Got
+  abbrev pub five : Heap → Ran (Option ℕ)
   five h = step5 b h or_else step6 b or_else step7 b
 
   from4-last : (h : Heap) → ((step4 b h >>= five) or_else last) ≡ from4 b h
@@ -328,7 +328,7 @@ module _ (b : ℕ) where
   unfolding grant seek up_to9
   grant-last h =
       sym (else-else (step1 b h) (λ h. step2 b h or_else step3 b) (from4 b))
-      ∙ ap (λ (x : Ran Got). x or_else from4 b) (sym (else-else (step1 b h) (step2 b) (step3 b)))
+      ∙ ap (λ (x : Ran (Option ℕ)). x or_else from4 b) (sym (else-else (step1 b h) (step2 b) (step3 b)))
       ∙ sym (else-else (step1 b h or_else step2 b or_else step3 b) (λ h. step4 b h >>= five) last
       ∙ else-by (step1 b h or_else step2 b or_else step3 b) (λ h. (step4 b h >>= five) or_else last) (from4 b) from4-last)
 
@@ -352,24 +352,24 @@ module _ (w : Given → Given) (b : ℕ) where
   step9-cuts h l = rw (le-leb (b + 32) (top_size h) l, step9)
 
   cut-last : (h : Heap) → b + 32 ≤ top_size h → last b h ≡ cut_top b h
-  cut-last h l = ap (λ (x : Ran Got). x or_else again b) (step9-cuts h l)
+  cut-last h l = ap (λ (x : Ran (Option ℕ)). x or_else again b) (step9-cuts h l)
 
   -- from the same place on
-  last-like : (x x' : Ran Got) → Like w x x' → (heap_of x).len ≤ (w (given (heap_of x))).len → short? b x ≡ false → Like w (x or_else last b) (x' or_else last b)
-  last-like (ran h ws (At c)) (ran h' ws' (At c')) l m s = l
-  last-like (ran h ws (At c)) (ran h' ws' Nothing) l m s = absurd (let z : ◌≡◌ {A = ℕ} 0 1 = cc in omega arith)
-  last-like (ran h ws Nothing) (ran h' ws' (At c')) l m s = absurd (let z : ◌≡◌ {A = ℕ} 0 1 = cc in omega arith)
-  last-like (ran h ws Nothing) (ran h' ws' Nothing) l m s =
+  last-like : (x x' : Ran (Option ℕ)) → Like w x x' → (heap_of x).len ≤ (w (given (heap_of x))).len → short? b x ≡ false → Like w (x or_else last b) (x' or_else last b)
+  last-like (ran h ws (Some c)) (ran h' ws' (Some c')) l m s = l
+  last-like (ran h ws (Some c)) (ran h' ws' None) l m s = absurd (let z : ◌≡◌ {A = ℕ} 0 1 = cc in omega arith)
+  last-like (ran h ws None) (ran h' ws' (Some c')) l m s = absurd (let z : ◌≡◌ {A = ℕ} 0 1 = cc in omega arith)
+  last-like (ran h ws None) (ran h' ws' None) l m s =
       let r : b + 32 ≤ top_size h = ltb-false (top_size h) (b + 32) s in
       like-more w ws ws' (last b h) (last b h')
       (subst (λ (g : Heap). Like w (last b h) (last b g)) (sym l.heap)
-      (subst (λ (y : Ran Got). Like w y (last b (with_given w h))) (sym (cut-last h r))
-      (subst (λ (y : Ran Got). Like w (cut_top b h) y) (sym (cut-last (with_given w h) (omega arith))) (record { heap = refl; says = refl }))))
+      (subst (λ (y : Ran (Option ℕ)). Like w y (last b (with_given w h))) (sym (cut-last h r))
+      (subst (λ (y : Ran (Option ℕ)). Like w (cut_top b h) y) (sym (cut-last (with_given w h) (omega arith))) (record { heap = refl; says = refl }))))
 
   pub grant-like : (h : Heap) → (heap_of (up_to9 b h)).len ≤ (w (given (heap_of (up_to9 b h)))).len → short? b (up_to9 b h) ≡ false → Like w (grant b h) (grant b (with_given w h))
   grant-like h m s =
-      subst (λ (y : Ran Got). Like w y (grant b (with_given w h))) (sym (grant-last b h))
-      (subst (λ (y : Ran Got). Like w (up_to9 b h or_else last b) y) (sym (grant-last b (with_given w h)))
+      subst (λ (y : Ran (Option ℕ)). Like w y (grant b (with_given w h))) (sym (grant-last b h))
+      (subst (λ (y : Ran (Option ℕ)). Like w (up_to9 b h or_else last b) y) (sym (grant-last b (with_given w h)))
       (last-like (up_to9 b h) (up_to9 b (with_given w h)) (up_to9-like h) m s))
 
 -- ---- no step changes the length

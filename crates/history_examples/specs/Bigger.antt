@@ -1,6 +1,6 @@
 -- Document 02, (ii), computed. Two pairs of runs on different lengths meet the premises, so they agree by the theorem; and what differs where one is not met:
 -- a grant that finds the smaller arena's top short, a release that yields 65,536 in the larger alone. Assumes nothing.
-use Rattle.std.specs.Prelude.{◌≡◌, refl, List, [], ◌∷◌, ◌++◌, Bool, true, false, not, ℕ, zero, suc, ◌+◌, ◌-◌, ◌%◌, ◌≤◌, ◌<◌, ltb, leb, length, get_or, replicate}
+use Rattle.std.specs.Prelude.{◌≡◌, refl, List, [], ◌∷◌, ◌++◌, Bool, true, false, not, ℕ, zero, suc, ◌+◌, ◌-◌, ◌%◌, ◌≤◌, ◌<◌, ltb, leb, length, get_or, replicate, Ok, Err}
 use Rattle.std.proofs.Common.{sym, ap, ◌∙◌, arith, le-leb, ltb-true}
 use Rattle.std.proofs.lemmas.List.{length-replicate}
 use Rattle.sizes.specs.Limits.{most_request, cache_lists, consolidate_from}
@@ -11,7 +11,7 @@ use Rattle.machine.specs.Writes.{heap_of}
 use Rattle.machine.specs.Primitives.{take_cache}
 use Rattle.machine.specs.Release.{drain, release_past, release, emptying}
 use Rattle.machine.specs.Grant.{grant}
-use Rattle.machine.specs.declared.Answer.TheVariants.{Done, Granted, Refused}
+use Rattle.machine.specs.declared.Answer.TheVariants.{Done, Granted}
 use Rattle.machine.specs.declared.Refusal.TheVariants as N
 use Rattle.machine.proofs.Script as X
 use Rattle.calls_consequences.specs.Results.{Lent}
@@ -132,13 +132,13 @@ sample-agrees =
     (record { key = omega arith; edition = refl }) (record { key = omega arith; edition = refl }) (omega arith) sample sample-meets
 
 pub sample-smaller :
-    answers sample (over 256 0) ≡ Granted 16 24 ∷ Granted 48 40 ∷ Granted 96 136 ∷ Done ∷ Refused N.NotLive ∷ Done ∷ Done ∷ Done ∷ Granted 48 104 ∷ []
+    answers sample (over 256 0) ≡ Ok (Granted 16 24) ∷ Ok (Granted 48 40) ∷ Ok (Granted 96 136) ∷ Ok Done ∷ Err N.NotLive ∷ Ok Done ∷ Ok Done ∷ Ok Done ∷ Ok (Granted 48 104) ∷ []
 unfolding sample over answers
 sample-smaller = refl
 
 -- the larger arena's answers are not computed: they are the smaller's, by the theorem
 pub sample-larger :
-    answers sample (over 384 1) ≡ Granted 16 24 ∷ Granted 48 40 ∷ Granted 96 136 ∷ Done ∷ Refused N.NotLive ∷ Done ∷ Done ∷ Done ∷ Granted 48 104 ∷ []
+    answers sample (over 384 1) ≡ Ok (Granted 16 24) ∷ Ok (Granted 48 40) ∷ Ok (Granted 96 136) ∷ Ok Done ∷ Err N.NotLive ∷ Ok Done ∷ Ok Done ∷ Ok Done ∷ Ok (Granted 48 104) ∷ []
 sample-larger = sym sample-agrees.told ∙ sample-smaller
 
 -- ---- 128 bytes of 255 and 272 of 0. Each grant of 56 finds exactly 64+32 bytes in the smaller arena's top; a request above 262,144 is refused
@@ -156,11 +156,11 @@ exact-agrees =
     (lent 272 0 refl (omega arith) (omega arith) (omega arith))
     (record { key = omega arith; edition = refl }) (record { key = omega arith; edition = refl }) (omega arith) exact exact-meets
 
-pub exact-smaller : answers exact (over 128 255) ≡ Granted 16 24 ∷ Granted 48 56 ∷ Refused N.Request ∷ Done ∷ Done ∷ Done ∷ Done ∷ Granted 48 56 ∷ []
+pub exact-smaller : answers exact (over 128 255) ≡ Ok (Granted 16 24) ∷ Ok (Granted 48 56) ∷ Err N.Request ∷ Ok Done ∷ Ok Done ∷ Ok Done ∷ Ok Done ∷ Ok (Granted 48 56) ∷ []
 unfolding exact over answers
 exact-smaller = refl
 
-pub exact-larger : answers exact (over 272 0) ≡ Granted 16 24 ∷ Granted 48 56 ∷ Refused N.Request ∷ Done ∷ Done ∷ Done ∷ Done ∷ Granted 48 56 ∷ []
+pub exact-larger : answers exact (over 272 0) ≡ Ok (Granted 16 24) ∷ Ok (Granted 48 56) ∷ Err N.Request ∷ Ok Done ∷ Ok Done ∷ Ok Done ∷ Ok Done ∷ Ok (Granted 48 56) ∷ []
 exact-larger = sym exact-agrees.told ∙ exact-smaller
 
 -- the byte stored at 20 is the same in both. That at 48 does not count: its block was released, and another granted there
@@ -196,11 +196,11 @@ pub short-excluded : Premise (Grant 200) (heap_at (run early (over 256 0))) (hea
 unfolding early over run
 short-excluded = excluded 200 (omega arith) (heap_at (run early (over 256 0))) (heap_at (run early (over 384 1))) refl
 
-pub short-smaller : answers (early ++ Grant 200 ∷ []) (over 256 0) ≡ Granted 16 24 ∷ Granted 48 40 ∷ Refused N.NoRoom ∷ []
+pub short-smaller : answers (early ++ Grant 200 ∷ []) (over 256 0) ≡ Ok (Granted 16 24) ∷ Ok (Granted 48 40) ∷ Err N.NoRoom ∷ []
 unfolding early over answers
 short-smaller = refl
 
-pub short-larger : answers (early ++ Grant 200 ∷ []) (over 384 1) ≡ Granted 16 24 ∷ Granted 48 40 ∷ Granted 96 200 ∷ []
+pub short-larger : answers (early ++ Grant 200 ∷ []) (over 384 1) ≡ Ok (Granted 16 24) ∷ Ok (Granted 48 40) ∷ Ok (Granted 96 200) ∷ []
 unfolding early over answers
 short-larger = refl
 
@@ -216,11 +216,11 @@ pub helped-excluded : Premise (Grant 80) (heap_at (run one-fast (over 128 0))) (
 unfolding one-fast over run
 helped-excluded = excluded 80 (omega arith) (heap_at (run one-fast (over 128 0))) (heap_at (run one-fast (over 160 0))) refl
 
-pub helped-smaller : answers (one-fast ++ Grant 80 ∷ []) (over 128 0) ≡ Granted 16 24 ∷ Done ∷ Done ∷ Granted 16 88 ∷ []
+pub helped-smaller : answers (one-fast ++ Grant 80 ∷ []) (over 128 0) ≡ Ok (Granted 16 24) ∷ Ok Done ∷ Ok Done ∷ Ok (Granted 16 88) ∷ []
 unfolding one-fast over answers
 helped-smaller = refl
 
-pub helped-larger : answers (one-fast ++ Grant 80 ∷ []) (over 160 0) ≡ Granted 16 24 ∷ Done ∷ Done ∷ Granted 48 88 ∷ []
+pub helped-larger : answers (one-fast ++ Grant 80 ∷ []) (over 160 0) ≡ Ok (Granted 16 24) ∷ Ok Done ∷ Ok Done ∷ Ok (Granted 48 88) ∷ []
 unfolding one-fast over answers
 helped-larger = refl
 
@@ -257,8 +257,8 @@ unfolding two-fast X.script L.bytes L.digits
 records-differ e = let z : ◌≡◌ {A = ℕ} 0 255 = ap (λ (l : List ℕ). get_or l 520 0) e in omega arith
 
 pub next-granted :
-    (said (grant (need 40) (heap_of (release 96 (two-fast 65616)))) ≡ Granted 112 40)
-    × (said (grant (need 40) (heap_of (release 96 (two-fast 65632)))) ≡ Granted 16 56)
+    (said (grant (need 40) (heap_of (release 96 (two-fast 65616)))) ≡ Ok (Granted 112 40))
+    × (said (grant (need 40) (heap_of (release 96 (two-fast 65632)))) ≡ Ok (Granted 16 56))
 unfolding two-fast X.script
 next-granted = (refl, refl)
 

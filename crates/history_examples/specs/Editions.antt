@@ -1,7 +1,7 @@
 -- Document 02, (xi) and (viii), computed: an arena of zeros opened with key 0 in edition 1, and with the largest key in edition 2. A run with resizes, in which the
 -- written bytes are followed to where a resized block takes them; and one whose chunks stand so high that their links are stored mixed. The answers are the same; what
 -- differs are key and edition in the record, and in a cached chunk the key and the stored link. Assumes nothing.
-use Rattle.std.specs.Prelude.{◌≡◌, refl, List, [], ◌∷◌, ℕ, ◌-◌, ◌^◌, get_or, replicate}
+use Rattle.std.specs.Prelude.{◌≡◌, refl, List, [], ◌∷◌, ℕ, ◌-◌, ◌^◌, get_or, replicate, Ok}
 use Rattle.std.proofs.Common.{sym, ap, ◌∙◌, arith}
 use Rattle.machine.specs.Lists.{cnt}
 use Rattle.machine.specs.declared.Answer.TheVariants.{Done, Granted}
@@ -46,12 +46,12 @@ unfolding chosen
 resizes-agree =
     editions-agree (replicate 256 0) (replicate 1584 0) (replicate 256 0) (replicate 1584 0) plainly mixedly sample-lent sample-lent plainly-allowed mixedly-allowed refl resizes
 
-pub resizes-answers : answers resizes (chosen 256 plainly) ≡ Granted 16 24 ∷ Granted 48 24 ∷ Granted 80 40 ∷ Granted 80 104 ∷ Granted 80 24 ∷ Done ∷ []
+pub resizes-answers : answers resizes (chosen 256 plainly) ≡ Ok (Granted 16 24) ∷ Ok (Granted 48 24) ∷ Ok (Granted 80 40) ∷ Ok (Granted 80 104) ∷ Ok (Granted 80 24) ∷ Ok Done ∷ []
 unfolding resizes chosen answers
 resizes-answers = refl
 
 -- the other choice's are not computed: they are the same, by the theorem
-pub resizes-answered : answers resizes (chosen 256 mixedly) ≡ Granted 16 24 ∷ Granted 48 24 ∷ Granted 80 40 ∷ Granted 80 104 ∷ Granted 80 24 ∷ Done ∷ []
+pub resizes-answered : answers resizes (chosen 256 mixedly) ≡ Ok (Granted 16 24) ∷ Ok (Granted 48 24) ∷ Ok (Granted 80 40) ∷ Ok (Granted 80 104) ∷ Ok (Granted 80 24) ∷ Ok Done ∷ []
 resizes-answered = sym resizes-agree.told ∙ resizes-answers
 
 -- the byte stored at 20 stands at 84 now. Those at 150 and 60 do not count: the one went with the rest, the other with its block
@@ -86,11 +86,11 @@ unfolding chosen
 links-agree =
     editions-agree (replicate 4176 0) (replicate 1584 0) (replicate 4176 0) (replicate 1584 0) plainly mixedly links-lent links-lent plainly-allowed mixedly-allowed refl links
 
-pub links-answers : answers links (chosen 4176 plainly) ≡ Granted 16 4072 ∷ Granted 4096 24 ∷ Granted 4128 24 ∷ Done ∷ Done ∷ []
+pub links-answers : answers links (chosen 4176 plainly) ≡ Ok (Granted 16 4072) ∷ Ok (Granted 4096 24) ∷ Ok (Granted 4128 24) ∷ Ok Done ∷ Ok Done ∷ []
 unfolding links chosen answers
 links-answers = refl
 
-pub links-answered : answers links (chosen 4176 mixedly) ≡ Granted 16 4072 ∷ Granted 4096 24 ∷ Granted 4128 24 ∷ Done ∷ Done ∷ []
+pub links-answered : answers links (chosen 4176 mixedly) ≡ Ok (Granted 16 4072) ∷ Ok (Granted 4096 24) ∷ Ok (Granted 4128 24) ∷ Ok Done ∷ Ok Done ∷ []
 links-answered = sym links-agree.told ∙ links-answers
 
 -- the end mark at 4,096 and the link to 4,080 at 4,128: as they are, and exclusive-or 1

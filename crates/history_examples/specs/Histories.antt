@@ -1,8 +1,8 @@
 -- Document 01's sample run, computed: its calls on 256 bytes answer as the document prints them; and one with resizes. So runs exist, and these definitions
 -- run them. Assumes nothing.
-use Rattle.std.specs.Prelude.{◌≡◌, refl, List, [], ◌∷◌, ℕ, zero, suc, ◌≤◌, ◌<◌, length, get_or, replicate}
+use Rattle.std.specs.Prelude.{◌≡◌, refl, List, [], ◌∷◌, ℕ, zero, suc, ◌≤◌, ◌<◌, length, get_or, replicate, Ok, Err}
 use Rattle.std.proofs.Common.{sym, ap, subst, inl, inr, ⊎_elim, arith}
-use Rattle.machine.specs.declared.Answer.TheVariants.{Done, Granted, Refused}
+use Rattle.machine.specs.declared.Answer.TheVariants.{Done, Granted}
 use Rattle.history.specs.Histories.{Grant, Release, Resize, Emptying, Joining, Block, State, state, next, run, answers, Choice, begin}
 use Rattle.calls_consequences.specs.Results.{Lent}
 use Rattle.history.specs.Demand3.{Held, here, there, Stretch, Mended, MendedAt}
@@ -36,7 +36,7 @@ pub sample-run :
     answers
     (Grant 24 ∷ Grant 25 ∷ Release 16 ∷ Release 16 ∷ Grant 0 ∷ Grant 200 ∷ Release 48 ∷ Release 16 ∷ Emptying ∷ Joining ∷ Grant 200 ∷ [])
     (begin (replicate 256 0) (replicate 1584 0) plainly)
-    ≡ Granted 16 24 ∷ Granted 48 40 ∷ Done ∷ Refused N.NotLive ∷ Granted 16 24 ∷ Refused N.NoRoom ∷ Done ∷ Done ∷ Done ∷ Done ∷ Granted 16 200 ∷ []
+    ≡ Ok (Granted 16 24) ∷ Ok (Granted 48 40) ∷ Ok Done ∷ Err N.NotLive ∷ Ok (Granted 16 24) ∷ Err N.NoRoom ∷ Ok Done ∷ Ok Done ∷ Ok Done ∷ Ok Done ∷ Ok (Granted 16 200) ∷ []
 unfolding next answers begin L.number_from L.number L.words L.digits L.bytes B.arena_words S.need S.usable S.cache_of S.fast_of S.large_bin S.bin_of H.record_of W.list_at W.tiles_of W.stacks_of W.bins_of U.tile_fault U.good_from U.list_fault U.flag_fault U.audit_by C.open_call C.grant_call C.release_call C.job_call C.closed_record E.absorb E.join_next E.put_down E.join E.release_past E.release E.drain E.drains E.consolidate E.emptying E.joining G.step1 G.move_fast G.step2 G.take_last G.move_lasts G.step3 G.step4 G.split G.sort_in G.split_lone G.keep G.turn_at G.turn G.swept G.sweep G.step5 G.carve G.step8 G.step6 G.step7 G.step9 G.pass G.again G.from4 G.seek G.grant
 sample-run = refl
 
@@ -46,7 +46,7 @@ pub sample-resizes :
     answers
     (Resize 0 24 ∷ Grant 24 ∷ Resize 16 40 ∷ Resize 80 100 ∷ Resize 16 24 ∷ Resize 80 262145 ∷ Resize 80 200 ∷ Resize 80 24 ∷ Resize 48 0 ∷ Release 80 ∷ Emptying ∷ Joining ∷ Grant 200 ∷ [])
     (begin (replicate 256 0) (replicate 1584 0) plainly)
-    ≡ Granted 16 24 ∷ Granted 48 24 ∷ Granted 80 40 ∷ Granted 80 104 ∷ Refused N.NotLive ∷ Refused N.Request ∷ Refused N.NoRoom ∷ Granted 80 24 ∷ Done ∷ Done ∷ Done ∷ Done ∷ Granted 16 200 ∷ []
+    ≡ Ok (Granted 16 24) ∷ Ok (Granted 48 24) ∷ Ok (Granted 80 40) ∷ Ok (Granted 80 104) ∷ Err N.NotLive ∷ Err N.Request ∷ Err N.NoRoom ∷ Ok (Granted 80 24) ∷ Ok Done ∷ Ok Done ∷ Ok Done ∷ Ok Done ∷ Ok (Granted 16 200) ∷ []
 unfolding next answers begin L.number_from L.number L.words L.digits L.bytes B.arena_words S.need S.usable S.cache_of S.fast_of S.large_bin S.bin_of H.record_of W.list_at W.tiles_of W.stacks_of W.bins_of U.tile_fault U.good_from U.list_fault U.flag_fault U.audit_by C.open_call C.grant_call C.release_call C.resize_call C.job_call C.closed_record E.absorb E.join_next E.put_down E.join E.release_past E.release E.drain E.drains E.consolidate E.emptying E.joining G.step1 G.move_fast G.step2 G.take_last G.move_lasts G.step3 G.step4 G.split G.sort_in G.split_lone G.keep G.turn_at G.turn G.swept G.sweep G.step5 G.carve G.step8 G.step6 G.step7 G.step9 G.pass G.again G.from4 G.seek G.grant Z.next_p Z.finish Z.resize
 sample-resizes = refl
 
@@ -56,7 +56,7 @@ pub sample-joined :
     answers
     (Grant 0 ∷ Grant 0 ∷ Grant 0 ∷ Grant 0 ∷ Grant 0 ∷ Grant 0 ∷ Grant 0 ∷ Grant 0 ∷ Grant 40 ∷ Grant 0 ∷ Release 16 ∷ Release 48 ∷ Release 80 ∷ Release 112 ∷ Release 144 ∷ Release 176 ∷ Release 208 ∷ Release 240 ∷ Release 320 ∷ Resize 272 80 ∷ Emptying ∷ Joining ∷ [])
     (begin (replicate 432 0) (replicate 1584 0) plainly)
-    ≡ Granted 16 24 ∷ Granted 48 24 ∷ Granted 80 24 ∷ Granted 112 24 ∷ Granted 144 24 ∷ Granted 176 24 ∷ Granted 208 24 ∷ Granted 240 24 ∷ Granted 272 40 ∷ Granted 320 24 ∷ Done ∷ Done ∷ Done ∷ Done ∷ Done ∷ Done ∷ Done ∷ Done ∷ Done ∷ Granted 272 88 ∷ Done ∷ Done ∷ []
+    ≡ Ok (Granted 16 24) ∷ Ok (Granted 48 24) ∷ Ok (Granted 80 24) ∷ Ok (Granted 112 24) ∷ Ok (Granted 144 24) ∷ Ok (Granted 176 24) ∷ Ok (Granted 208 24) ∷ Ok (Granted 240 24) ∷ Ok (Granted 272 40) ∷ Ok (Granted 320 24) ∷ Ok Done ∷ Ok Done ∷ Ok Done ∷ Ok Done ∷ Ok Done ∷ Ok Done ∷ Ok Done ∷ Ok Done ∷ Ok Done ∷ Ok (Granted 272 88) ∷ Ok Done ∷ Ok Done ∷ []
 unfolding next answers begin L.number_from L.number L.words L.digits L.bytes B.arena_words S.need S.usable S.cache_of S.fast_of S.large_bin S.bin_of H.record_of W.list_at W.tiles_of W.stacks_of W.bins_of U.tile_fault U.good_from U.list_fault U.flag_fault U.audit_by C.open_call C.grant_call C.release_call C.resize_call C.job_call C.closed_record E.absorb E.join_next E.put_down E.join E.release_past E.release E.drain E.drains E.consolidate E.emptying E.joining G.step1 G.move_fast G.step2 G.take_last G.move_lasts G.step3 G.step4 G.split G.sort_in G.split_lone G.keep G.turn_at G.turn G.swept G.sweep G.step5 G.carve G.step8 G.step6 G.step7 G.step9 G.pass G.again G.from4 G.seek G.grant Z.next_p Z.finish Z.resize
 sample-joined = refl
 

@@ -1,4 +1,5 @@
 -- A file's first bytes, each refusal in its order, on short files, and images of versions 2 and 3 that are read. By computation. Assumes nothing.
+use Rattle.std.specs.Prelude.{Ok, Err}
 use mathlib.Core.Path.{◌≡◌, refl}
 use mathlib.Core.List.{List, [], ◌∷◌, ◌++◌}
 use Prim.Native.Nat.{ℕ}
@@ -6,9 +7,8 @@ use lib.ListN.{take, drop, replicate}
 use Rattle.le.specs.Number.{number, number_from, digits, bytes}
 use Rattle.sizes.specs.Limits.{none32, none64}
 use Rattle.machine.specs.Heap.{tile, Heap, record_of}
-use Rattle.machine.specs.declared.Audited.TheVariants as A
 use Rattle.image.specs.Image.{image, after_reading, read_call}
-use Rattle.image.specs.declared.Reading.TheVariants.{NoMark, NoVersion, WrongLength, Read}
+use Rattle.image.specs.declared.Unread.TheVariants.{NoMark, NoVersion, WrongLength}
 use Rattle.le.specs.Number as L
 use Rattle.le.specs.Arena as B
 use Rattle.sizes.specs.Sizes as S
@@ -28,43 +28,43 @@ head-of-288 = refl
 -- ---- refusals, whatever is lent
 module _ (a r : List ℕ) where
   -- 4 bytes: number 6
-  four_bytes : read_call (72 ∷ 80 ∷ 73 ∷ 1 ∷ []) a r ≡ after_reading a r NoMark
+  four_bytes : read_call (72 ∷ 80 ∷ 73 ∷ 1 ∷ []) a r ≡ after_reading a r (Err NoMark)
   unfolding read_call
   four_bytes = refl
 
   -- neither mark nor version: number 6 comes before number 7
-  wrong-mark : read_call (72 ∷ 80 ∷ 74 ∷ 5 ∷ 0 ∷ []) a r ≡ after_reading a r NoMark
+  wrong-mark : read_call (72 ∷ 80 ∷ 74 ∷ 5 ∷ 0 ∷ []) a r ≡ after_reading a r (Err NoMark)
   unfolding read_call
   wrong-mark = refl
 
   -- versions 0 and 5, and no length: number 7 comes before number 1
-  version-0 : read_call (72 ∷ 80 ∷ 73 ∷ 0 ∷ 0 ∷ []) a r ≡ after_reading a r NoVersion
+  version-0 : read_call (72 ∷ 80 ∷ 73 ∷ 0 ∷ 0 ∷ []) a r ≡ after_reading a r (Err NoVersion)
   unfolding read_call number number_from
   version-0 = refl
 
-  version-5 : read_call (72 ∷ 80 ∷ 73 ∷ 5 ∷ 0 ∷ []) a r ≡ after_reading a r NoVersion
+  version-5 : read_call (72 ∷ 80 ∷ 73 ∷ 5 ∷ 0 ∷ []) a r ≡ after_reading a r (Err NoVersion)
   unfolding read_call number number_from
   version-5 = refl
 
   -- the version's bytes the other way round
-  version-256 : read_call (72 ∷ 80 ∷ 73 ∷ 0 ∷ 1 ∷ []) a r ≡ after_reading a r NoVersion
+  version-256 : read_call (72 ∷ 80 ∷ 73 ∷ 0 ∷ 1 ∷ []) a r ≡ after_reading a r (Err NoVersion)
   unfolding read_call number number_from
   version-256 = refl
 
   -- a mark, version 1, 2, 3 or 4, and no length: number 1
-  no-length-4 : read_call (72 ∷ 80 ∷ 73 ∷ 4 ∷ 0 ∷ []) a r ≡ after_reading a r WrongLength
+  no-length-4 : read_call (72 ∷ 80 ∷ 73 ∷ 4 ∷ 0 ∷ []) a r ≡ after_reading a r (Err WrongLength)
   unfolding read_call number number_from
   no-length-4 = refl
 
-  no-length-3 : read_call (72 ∷ 80 ∷ 73 ∷ 3 ∷ 0 ∷ []) a r ≡ after_reading a r WrongLength
+  no-length-3 : read_call (72 ∷ 80 ∷ 73 ∷ 3 ∷ 0 ∷ []) a r ≡ after_reading a r (Err WrongLength)
   unfolding read_call number number_from
   no-length-3 = refl
 
-  no-length-2 : read_call (72 ∷ 80 ∷ 73 ∷ 2 ∷ 0 ∷ []) a r ≡ after_reading a r WrongLength
+  no-length-2 : read_call (72 ∷ 80 ∷ 73 ∷ 2 ∷ 0 ∷ []) a r ≡ after_reading a r (Err WrongLength)
   unfolding read_call number number_from
   no-length-2 = refl
 
-  no_length : read_call (72 ∷ 80 ∷ 73 ∷ 1 ∷ 0 ∷ []) a r ≡ after_reading a r WrongLength
+  no_length : read_call (72 ∷ 80 ∷ 73 ∷ 1 ∷ 0 ∷ []) a r ≡ after_reading a r (Err WrongLength)
   unfolding read_call number number_from
   no_length = refl
 
@@ -87,7 +87,7 @@ words-2 x = 0 ∷ 1025 ∷ none64 ∷ none64 ∷ x ∷ x ∷ (replicate 122 0 ++
 file-2 : List ℕ
 file-2 = 72 ∷ 80 ∷ 73 ∷ 2 ∷ 0 ∷ 64 ∷ 4 ∷ 0 ∷ 0 ∷ (take 1580 (bytes 4 (record_of heap-2)) ++ bytes 8 (words-2 7))
 
-read-2 : read_call file-2 (replicate 1088 1) (replicate 1584 1) ≡ after_reading (bytes 8 (words-2 none64)) (bytes 4 (record_of heap-2)) (Read A.Sound)
+read-2 : read_call file-2 (replicate 1088 1) (replicate 1584 1) ≡ after_reading (bytes 8 (words-2 none64)) (bytes 4 (record_of heap-2)) (Ok (Ok tt))
 unfolding file-2 words-2 heap-2 read_call L.number_from L.number L.words L.digits L.bytes B.arena_words S.large_bin S.bin_of H.record_of W.list_at W.tiles_of W.stacks_of W.bins_of U.tile_fault U.good_from U.list_fault U.flag_fault U.audit_by
 read-2 = refl
 
@@ -100,6 +100,6 @@ ends-2 = refl
 file-3 : List ℕ
 file-3 = 72 ∷ 80 ∷ 73 ∷ 3 ∷ 0 ∷ 64 ∷ 4 ∷ 0 ∷ 0 ∷ (take 1580 (bytes 4 (record_of heap-2)) ++ bytes 8 (words-2 none64))
 
-read-3 : read_call file-3 (replicate 1088 1) (replicate 1584 1) ≡ after_reading (bytes 8 (words-2 none64)) (bytes 4 (record_of heap-2)) (Read A.Sound)
+read-3 : read_call file-3 (replicate 1088 1) (replicate 1584 1) ≡ after_reading (bytes 8 (words-2 none64)) (bytes 4 (record_of heap-2)) (Ok (Ok tt))
 unfolding file-3 words-2 heap-2 read_call L.number_from L.number L.words L.digits L.bytes B.arena_words S.large_bin S.bin_of H.record_of W.list_at W.tiles_of W.stacks_of W.bins_of U.tile_fault U.good_from U.list_fault U.flag_fault U.audit_by
 read-3 = refl

@@ -1,18 +1,17 @@
 -- A file read into any buffers of the right lengths gives the same: what is read does not depend on what the buffers held, and where the arena lent is not as
 -- long as the file says, no arena would do. Assumes nothing.
-use Rattle.std.specs.Prelude.{◌≡◌, refl, List, Bool, true, false, ℕ, ◌≤◌, eqb, length, replicate}
+use Rattle.std.specs.Prelude.{◌≡◌, refl, List, Bool, true, false, ℕ, ◌≤◌, eqb, length, replicate, Ok, Err}
 use Rattle.std.proofs.Common.{sym, ap, ◌∙◌, arith, eqb-true, eq-eqb}
 use Rattle.std.proofs.lemmas.List.{length-replicate}
 use Rattle.sizes.specs.Limits.{record_bytes}
 use Rattle.machine.specs.Lists.{both}
 use Rattle.machine.specs.Calls.{arena_allowed?}
-use Rattle.machine.specs.declared.Audited.{Audited}
 use Rattle.calls.specs.Ways.{allowed-true}
-use Rattle.image.specs.declared.Reading.{Reading}
-use Rattle.image.specs.declared.Reading.TheVariants.{NoMark, NoVersion, WrongLength, Read}
-use Rattle.image.specs.Image.{version_in, length_in, image_bytes, fits?, AfterReading, after_reading, read_call}
+use Rattle.image.specs.declared.Unread.TheVariants.{NoMark, NoVersion, WrongLength}
+use Rattle.image.specs.Image.{version_in, length_in, image_bytes, fits?, AfterReading, after_reading, read_call, Reading}
 use Rattle.image.specs.Ways.{clash, read-no-mark, read-no-version, read-wrong-length, read_through}
 use Rattle.image.proofs.Cases.{read-cases}
+use Rattle.machine.specs.Audit.{Audited}
 
 -- what is lent to read f into: a record, and an arena of the length that f says, unless that is none
 pub record Lent (f a r : List ℕ) : Type 0 where
@@ -43,7 +42,7 @@ module _ (f : List ℕ) where
 abbrev pub Blind {ℓ} : {X : Type ℓ} → (AfterReading → X) → Reading → Type ℓ
 Blind g x = (a r b q : List ℕ) → g (after_reading a r x) ≡ g (after_reading b q x)
 
-pub read_same {ℓ} : {X : Type ℓ} (g : AfterReading → X) → Blind g NoMark → Blind g NoVersion → Blind g WrongLength
+pub read_same {ℓ} : {X : Type ℓ} (g : AfterReading → X) → Blind g (Err NoMark) → Blind g (Err NoVersion) → Blind g (Err WrongLength)
     → (f a r b q : List ℕ) → Lent f a r → Lent f b q → g (read_call f a r) ≡ g (read_call f b q)
 read_same g six seven one f a r b q l k =
     let e : fits? f a r ≡ fits? f b q = fits-same f a r b q l k in
@@ -54,9 +53,9 @@ read_same g six seven one f a r b q l k =
     (λ m v t. ap g (read_through f b q m v (sym e ∙ t)))
 
 -- what is read once is read again
-pub read_again : (f a r b q c s : List ℕ) (x : Audited) → Lent f a r → Lent f b q → read_call f a r ≡ after_reading c s (Read x) → read_call f b q ≡ after_reading c s (Read x)
+pub read_again : (f a r b q c s : List ℕ) (x : Audited) → Lent f a r → Lent f b q → read_call f a r ≡ after_reading c s (Ok x) → read_call f b q ≡ after_reading c s (Ok x)
 read_again f a r b q c s x l k =
-    read-cases (λ y. y ≡ after_reading c s (Read x) → read_call f b q ≡ after_reading c s (Read x)) f a r
+    read-cases (λ y. y ≡ after_reading c s (Ok x) → read_call f b q ≡ after_reading c s (Ok x)) f a r
     (λ m e. clash (cc))
     (λ m v e. clash (cc))
     (λ m v t e. clash (cc))

@@ -1,7 +1,7 @@
 -- What a reading makes of an older image: its answer is the audit, by the rules of the file's version, of what it left; a heap of version 1, 2 or 3 that is sound
 -- by those rules is the same heap after it, with edition 1, one of version 1 with key 0, and sound by the newest; an unsound one is left as it stands in the
 -- file. Of any version, what was read may be lent to calls. Assumes nothing.
-use Rattle.std.specs.Prelude.{◌≡◌, refl, Bool, true, false, List, [], ◌∷◌, ◌++◌, ◌⊎◌, ℕ, zero, suc, ◌+◌, ◌-◌, ◌/◌, ◌≤◌, ◌<◌, length, get_or, take, drop, replicate}
+use Rattle.std.specs.Prelude.{◌≡◌, refl, Bool, true, false, List, [], ◌∷◌, ◌++◌, ◌⊎◌, ℕ, zero, suc, ◌+◌, ◌-◌, ◌/◌, ◌≤◌, ◌<◌, length, get_or, take, drop, replicate, Ok}
 use Rattle.std.proofs.Common.{sym, ap, ◌∙◌, subst, inl, inr, ⊎_elim, arith, get_or-drop}
 use Rattle.le.specs.Number.{digits, bytes}
 use Rattle.le.specs.WordsLaws.{length-words}
@@ -10,10 +10,8 @@ use Rattle.le.specs.ArenaLaws.{bytes-arena_words}
 use Rattle.sizes.specs.Limits.{newest, plain}
 use Rattle.machine.specs.Heap.{Heap}
 use Rattle.machine.specs.Writes.{apply}
-use Rattle.machine.specs.Audit.{sound?, audit_by}
+use Rattle.machine.specs.Audit.{sound?, audit_by, Audited}
 use Rattle.machine.specs.Calls.{shape?, arena_allowed?, words_of, heap_in, audit_call}
-use Rattle.machine.specs.declared.Audited.{Audited}
-use Rattle.machine.specs.declared.Audited.TheVariants as A
 use Rattle.sound.specs.Relation.{SoundBy, Sound}
 use Rattle.sound.specs.Tiles.{lt-or-le}
 use Rattle.audit_walks.specs.Tests.{is-sound}
@@ -23,7 +21,6 @@ use Rattle.calls.specs.Through.{Came, came-arena, words_small}
 use Rattle.calls_consequences.specs.Bytes.{bytes_small, arena_words-cut}
 use Rattle.calls_consequences.specs.Results.{Lent}
 use Rattle.calls_consequences.specs.Written.{mem-cut}
-use Rattle.image.specs.declared.Reading.TheVariants.{Read}
 use Rattle.image.specs.Image.{known?, record_bytes_by, version_in, lacked_record, record_in, arena_in, lacked, completed, after_reading, heap_read, read_call}
 use Rattle.image.specs.Ways.{known-true, heap-new, heap-unsound, heap-completed, parts-long}
 use Rattle.image.specs.Completed.{Old, by-rules, lacked-sound}
@@ -65,12 +62,12 @@ record-small f s = small-append (take (record_bytes_by (version_in f)) (drop 9 f
 
 -- ---- arena a and record r of version v, sound by its rules: with what it lacks the heap is sound by the newest
 module _ (v : ℕ) (a r : List ℕ) where
-  old-sound : shape? a r ≡ true → Small r → audit_by v (arena_words a) (words_of r) ≡ A.Sound → SoundBy v (heap_in a r) (arena_words a) (words_of r)
+  old-sound : shape? a r ≡ true → Small r → audit_by v (arena_words a) (words_of r) ≡ Ok tt → SoundBy v (heap_in a r) (arena_words a) (words_of r)
   old-sound s small e =
       let c : Came a r (words_of r) = record { shape = s; small = small; words = refl } in
       audit-sound-by v (arena_words a) (words_of r) (arena-words a (came-arena a r (words_of r) c)) (length-words 4 396 r) (words_small r small) e
 
-  completed-left : 1 ≤ v → v < newest → shape? a r ≡ true → Small r → audit_by v (arena_words a) (words_of r) ≡ A.Sound
+  completed-left : 1 ≤ v → v < newest → shape? a r ≡ true → Small r → audit_by v (arena_words a) (words_of r) ≡ Ok tt
       → Sound (heap_in a r) (arena_words (completed v (heap_in a r) a)) (words_of r)
   completed-left f o s small e =
       let h = heap_in a r in
@@ -86,9 +83,9 @@ module _ (v : ℕ) (a r q : List ℕ) (x : Audited) (eq : q ≡ words_of r) (ex 
   by-record : x ≡ audit_by v (arena_words a) (words_of r)
   by-record = ex ∙ ap (audit_by v (arena_words a)) eq
 
-  pub read-as-it-is : (newest ≤ v) ⊎ (sound? x ≡ false) → after_reading a r (Read x) ≡ heap_read v a r
+  pub read-as-it-is : (newest ≤ v) ⊎ (sound? x ≡ false) → after_reading a r (Ok x) ≡ heap_read v a r
   read-as-it-is d =
-      ap (λ (x : Audited). after_reading a r (Read x)) by-record
+      ap (λ (x : Audited). after_reading a r (Ok x)) by-record
       ∙ ⊎_elim (λ l. heap-new v a r l) (λ e. heap-unsound v a r (ap sound? (sym by-record) ∙ e)) d
 
   module _ (s : shape? a r ≡ true) (small : Small r) (known : known? v ≡ true) (old : v < newest) (e : sound? x ≡ true) where
@@ -98,12 +95,12 @@ module _ (v : ℕ) (a r q : List ℕ) (x : Audited) (eq : q ≡ words_of r) (ex 
     pub read-old : Old v (arena_words a) q
     read-old = record { first = (known-true v known).0; older = old; heap = heap_in a r; sound = was-sound }
 
-    pub read-completed : (b : List ℕ) → Octets b → ((h : Heap) → SoundBy v h (arena_words a) q → arena_words b ≡ apply (lacked v h) (arena_words a)) → after_reading b r (Read x) ≡ heap_read v a r
+    pub read-completed : (b : List ℕ) → Octets b → ((h : Heap) → SoundBy v h (arena_words a) q → arena_words b ≡ apply (lacked v h) (arena_words a)) → after_reading b r (Ok x) ≡ heap_read v a r
     read-completed b o k =
-        ap (λ (b : List ℕ). after_reading b r (Read x)) (sym (bytes-arena_words b o.even o.small) ∙ ap (bytes 8) (k (heap_in a r) was-sound))
-        ∙ ap (λ (x : Audited). after_reading (completed v (heap_in a r) a) r (Read x)) by-record ∙ heap-completed v a r old (ap sound? (sym by-record) ∙ e)
+        ap (λ (b : List ℕ). after_reading b r (Ok x)) (sym (bytes-arena_words b o.even o.small) ∙ ap (bytes 8) (k (heap_in a r) was-sound))
+        ∙ ap (λ (x : Audited). after_reading (completed v (heap_in a r) a) r (Ok x)) by-record ∙ heap-completed v a r old (ap sound? (sym by-record) ∙ e)
 
-module _ (f a r b q : List ℕ) (x : Audited) (small : Small f) (e : read_call f a r ≡ after_reading b q (Read x)) where
+module _ (f a r b q : List ℕ) (x : Audited) (small : Small f) (e : read_call f a r ≡ after_reading b q (Ok x)) where
   T : TakenFrom f a r b q x
   T = taken f a r b q x e
 
@@ -118,9 +115,9 @@ module _ (f a r b q : List ℕ) (x : Audited) (small : Small f) (e : read_call f
         rw (T.complete old s, T.control) (completed-left (version_in f) (arena_in f) (record_in f) (known-true (version_in f) T.known).0 old (shape-true (arena_in f) (record_in f) L.1 (ap arena_allowed? L.0 ∙ shape-allowed a r T.fits.shape)) (record-small f small) (sym T.audit ∙ is-sound x s))
 
     -- it is left sound by the newest rules, the same heap
-    pub read-old-sound : (audit_call b q ≡ A.Sound) × (heap_in b q ≡ before)
+    pub read-old-sound : (audit_call b q ≡ Ok tt) × (heap_in b q ≡ before)
     read-old-sound = (
-      sym (audit-good b q (words_of q) A.Sound (taken-shape f a r b q x T).0 refl (sym (audit-complete before (arena_words b) (words_of q) left-sound))),
+      sym (audit-good b q (words_of q) (Ok tt) (taken-shape f a r b q x T).0 refl (sym (audit-complete before (arena_words b) (words_of q) left-sound))),
       audit-read before (arena_words b) (words_of q) left-sound,
     )
 
@@ -143,7 +140,7 @@ module _ (f a r b q : List ℕ) (x : Audited) (small : Small f) (e : read_call f
       by l false s = same-audits (T.arena (inr s))
 
   -- ---- sound by the rules of its version it is left sound by the newest
-  pub read-sound : sound? x ≡ true → audit_call b q ≡ A.Sound
+  pub read-sound : sound? x ≡ true → audit_call b q ≡ Ok tt
   read-sound s = ⊎_elim
       (λ l. (read-old-sound l s).0)
       (λ l.

@@ -1,5 +1,5 @@
 -- The parts of a file: those of an image are what it was made of, a file that is read is the image of its parts, and these are what was read. Assumes nothing.
-use Rattle.std.specs.Prelude.{◌≡◌, Bool, true, false, List, ◌∷◌, ◌++◌, ◌⊎◌, ℕ, zero, suc, ◌+◌, ◌-◌, ◌*◌, ◌/◌, ◌%◌, ◌≤◌, ◌<◌, eqb, leb, length, get_or, take, drop}
+use Rattle.std.specs.Prelude.{◌≡◌, Bool, true, false, List, ◌∷◌, ◌++◌, ◌⊎◌, ℕ, zero, suc, ◌+◌, ◌-◌, ◌*◌, ◌/◌, ◌%◌, ◌≤◌, ◌<◌, eqb, leb, length, get_or, take, drop, Ok}
 use Rattle.std.proofs.Math.Path.{refl}
 use Rattle.std.proofs.Common.{sym, ap, ◌∙◌, append-nil, inl, inr, ⊎_elim, add-suc, add-zero, take-append-drop, drop-cons, drop-drop, eqb-true, le-leb}
 use native.Mathlib.Omega.{arith}
@@ -10,13 +10,11 @@ use Rattle.le.specs.Arena.{arena_words}
 use Rattle.le.specs.ArenaLaws.{length-arena_words}
 use Rattle.sizes.specs.Limits.{record_bytes, newest}
 use Rattle.machine.specs.Writes.{apply}
-use Rattle.machine.specs.Audit.{sound?, audit_by}
+use Rattle.machine.specs.Audit.{sound?, audit_by, Audited}
 use Rattle.machine.specs.Calls.{arena_allowed?, shape?, words_of, heap_in}
-use Rattle.machine.specs.declared.Audited.{Audited}
 use Rattle.sound.specs.Tiles.{lt-or-le}
 use Rattle.sound.specs.Frames.{apply-length}
 use Rattle.calls.specs.Ways.{allowed-true, shape-true, shape-allowed}
-use Rattle.image.specs.declared.Reading.TheVariants.{Read}
 use Rattle.image.specs.Image.{known?, record_bytes_by, image, length_at, record_at, image_bytes, marked?, version_in, length_in, lacked_record, record_in, arena_in, lacked, completed, after_reading, read_call}
 use Rattle.image.specs.Ways.{clash, never, both_yes, Fits, marked-long, fits-true, parts-long, heap-cases}
 use Rattle.image.proofs.Cases.{read-cases}
@@ -101,12 +99,12 @@ pub record TakenFrom (f a r b q : List ℕ) (x : Audited) : Type 0 where
   pub arena : (newest ≤ version_in f) ⊎ (sound? x ≡ false) → b ≡ arena_in f
   pub complete : version_in f < newest → sound? x ≡ true → b ≡ completed (version_in f) (heap_in (arena_in f) (record_in f)) (arena_in f)
 
-pub taken : (f a r b q : List ℕ) (x : Audited) → read_call f a r ≡ after_reading b q (Read x) → TakenFrom f a r b q x
-taken f a r b q x = read-cases (λ y. y ≡ after_reading b q (Read x) → TakenFrom f a r b q x) f a r
+pub taken : (f a r b q : List ℕ) (x : Audited) → read_call f a r ≡ after_reading b q (Ok x) → TakenFrom f a r b q x
+taken f a r b q x = read-cases (λ y. y ≡ after_reading b q (Ok x) → TakenFrom f a r b q x) f a r
     (λ m e. clash (cc))
     (λ m v e. clash (cc))
     (λ m v t e. clash (cc))
-    (λ m v t. heap-cases (λ y. y ≡ after_reading b q (Read x) → TakenFrom f a r b q x) (version_in f) (arena_in f) (record_in f)
+    (λ m v t. heap-cases (λ y. y ≡ after_reading b q (Ok x) → TakenFrom f a r b q x) (version_in f) (arena_in f) (record_in f)
     (λ d e. record {
       mark = m;
       known = v;

@@ -1,20 +1,20 @@
 -- A heap in a file: what its bytes are, and what writing and reading one answer and leave. Definitions only.
-use Rattle.std.specs.Prelude.{List, [], ◌∷◌, ◌++◌, Bool, true, false, ℕ, ◌+◌, ◌-◌, eqb, ltb, leb, length, get_or, take, drop, replicate}
+use Rattle.std.specs.Prelude.{List, [], ◌∷◌, ◌++◌, Bool, true, false, ℕ, ◌+◌, ◌-◌, eqb, ltb, leb, length, get_or, take, drop, replicate, Result, Ok, Err}
 use Rattle.le.specs.Number.{number, digits, bytes}
 use Rattle.le.specs.Arena.{arena_words}
 use Rattle.sizes.specs.Limits.{record_bytes, newest, plain}
 use Rattle.machine.specs.Lists.{both}
 use Rattle.machine.specs.Heap.{Heap}
 use Rattle.machine.specs.Writes.{Write, apply}
-use Rattle.machine.specs.Audit.{sound?, audit_by}
-use Rattle.machine.specs.Calls.{shape?, arena_allowed?, words_of, heap_in, fault_numbers}
+use Rattle.machine.specs.Audit.{Audited, sound?, audit_by}
+use Rattle.machine.specs.Calls.{shape?, arena_allowed?, words_of, heap_in, fault_numbers, Answered}
 use Rattle.image_keys.specs.Keys.{keys_of}
 use Rattle.image_skips.specs.Skips.{skips_of}
-use Rattle.machine.specs.declared.{Answer.Answer, HeapFault.HeapFault}
-use Rattle.machine.specs.declared.Answer.TheVariants.{Done, Refused}
+use Rattle.machine.specs.declared.{HeapFault.HeapFault}
+use Rattle.machine.specs.declared.Answer.TheVariants.{Done}
 use Rattle.machine.specs.declared.Refusal.TheVariants as R
-use Rattle.image.specs.declared.Reading.{Reading}
-use Rattle.image.specs.declared.Reading.TheVariants.{NoMark, NoVersion, WrongLength, Read}
+use Rattle.image.specs.declared.Unread.{Unread}
+use Rattle.image.specs.declared.Unread.TheVariants.{NoMark, NoVersion, WrongLength}
 
 -- ---- the file: the mark HPI, a 16-bit version, a 32-bit arena length, the record, the arena; numbers are little-endian
 abbrev pub mark : List ℕ
@@ -48,10 +48,10 @@ image_bytes v n = record_at + (record_bytes_by v + n)
 
 -- ---- writing: file bytes and answer. Number 1 for the shape of arena or record, or a file buffer of another length; a refusal writes nothing
 pub data Written : Type 0 where
-  written : List ℕ → Answer → Written
+  written : List ℕ → Answered → Written
 
 unfoldable pub write_call : List ℕ → List ℕ → List ℕ → Written
-write_call a r f = elim (both (shape? a r) (eqb (length f) (image_bytes newest (length a)))) [ true ↦ written (image a r) Done | false ↦ written f (Refused R.Shape) ]
+write_call a r f = elim (both (shape? a r) (eqb (length f) (image_bytes newest (length a)))) [ true ↦ written (image a r) (Ok Done) | false ↦ written f (Err R.Shape) ]
 
 -- ---- what stands in a file
 abbrev pub marked? : List ℕ → Bool
@@ -90,6 +90,10 @@ lacked v h = lacked_keys v h ++ lacked_skips v h
 abbrev pub completed : ℕ → Heap → List ℕ → List ℕ
 completed v h a = bytes 8 (apply (lacked v h) (arena_words a))
 
+-- what a reading answers: the audit of the heap that was read, or why it is refused
+abbrev pub Reading : Type 0
+Reading = Result Audited Unread
+
 -- ---- reading: arena bytes, record bytes and answer. Number 6 for a wrong mark or fewer than 5 bytes, 7 for a version not known, 1 for a length, each writing
 -- nothing; else the heap as it was written, sound or not, with its audit's answer by the rules of its version; an older one that is sound gets what it lacks
 pub data AfterReading : Type 0 where
@@ -97,8 +101,8 @@ pub data AfterReading : Type 0 where
 
 abbrev pub heap_read : ℕ → List ℕ → List ℕ → AfterReading
 heap_read v a r = elim (both (ltb v newest) (sound? (audit_by v (arena_words a) (words_of r)))) [
-  | true ↦ after_reading (completed v (heap_in a r) a) r (Read (audit_by v (arena_words a) (words_of r)))
-  | false ↦ after_reading a r (Read (audit_by v (arena_words a) (words_of r)))
+  | true ↦ after_reading (completed v (heap_in a r) a) r (Ok (audit_by v (arena_words a) (words_of r)))
+  | false ↦ after_reading a r (Ok (audit_by v (arena_words a) (words_of r)))
 ]
 
 unfoldable pub read_call : List ℕ → List ℕ → List ℕ → AfterReading
@@ -106,16 +110,19 @@ read_call f a r = elim (marked? f) [
   | true ↦ elim (known? (version_in f)) [
     | true ↦ elim (fits? f a r) [
       | true ↦ heap_read (version_in f) (arena_in f) (record_in f)
-      | false ↦ after_reading a r WrongLength
+      | false ↦ after_reading a r (Err WrongLength)
     ]
-    | false ↦ after_reading a r NoVersion
+    | false ↦ after_reading a r (Err NoVersion)
   ]
-  | false ↦ after_reading a r NoMark
+  | false ↦ after_reading a r (Err NoMark)
 ]
 
 -- the document's numbers for each answer; a refusal has kind 0 and number 0
+abbrev pub unread_no : Unread → ℕ
+unread_no NoMark = 6
+unread_no NoVersion = 7
+unread_no WrongLength = 1
+
 abbrev pub reading_numbers : Reading → HeapFault
-reading_numbers NoMark = record { no = 6; kind = 0; number = 0 }
-reading_numbers NoVersion = record { no = 7; kind = 0; number = 0 }
-reading_numbers WrongLength = record { no = 1; kind = 0; number = 0 }
-reading_numbers (Read x) = fault_numbers x
+reading_numbers (Err u) = record { no = unread_no u; kind = 0; number = 0 }
+reading_numbers (Ok x) = fault_numbers x

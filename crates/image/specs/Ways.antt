@@ -1,5 +1,5 @@
 -- What the tests of a file say, and each way through writing and reading: one lemma for each refusal, and one for the call that goes through. Assumes nothing.
-use Rattle.std.specs.Prelude.{◌≡◌, Bool, List, ◌++◌, ◌⊎◌, eqb, ltb, leb, length, take, drop}
+use Rattle.std.specs.Prelude.{◌≡◌, Bool, List, ◌++◌, ◌⊎◌, eqb, ltb, leb, length, take, drop, Ok, Err}
 use Rattle.std.proofs.Math.Path.{refl}
 use Rattle.std.proofs.Common.{sym, ap, ◌∙◌, subst, append_assoc, inl, inr, ⊎_elim, arith, take_all}
 use Rattle.std.proofs.Math.Bool.{true, false}
@@ -13,11 +13,11 @@ use Rattle.sizes.specs.Limits.{record_bytes, newest}
 use Rattle.machine.specs.Lists.{both}
 use Rattle.machine.specs.Audit.{sound?, audit_by}
 use Rattle.machine.specs.Calls.{shape?, arena_allowed?, words_of, heap_in}
-use Rattle.machine.specs.declared.Answer.TheVariants.{Done, Refused}
+use Rattle.machine.specs.declared.Answer.TheVariants.{Done}
 use Rattle.machine.specs.declared.Refusal.TheVariants as R
 use Rattle.sound.specs.Tiles.{lt-or-le}
 use Rattle.calls.specs.Ways.{shape-true, shape-long, shape-allowed}
-use Rattle.image.specs.declared.Reading.TheVariants.{NoMark, NoVersion, WrongLength, Read}
+use Rattle.image.specs.declared.Unread.TheVariants.{NoMark, NoVersion, WrongLength}
 use Rattle.image.specs.Image.{mark, known?, record_bytes_by, image, image_bytes, length_at, Written, written, write_call, marked?, version_in, length_in, lacked_record, record_in, arena_in, fits?, completed, AfterReading, after_reading, heap_read, read_call}
 
 -- ---- tests
@@ -94,25 +94,25 @@ length-image a r = simp (length-append, length_digits) (omega arith)
 
 -- ---- writing
 module _ (a r f : List ℕ) where
-  pub write_shape : shape? a r ≡ false → written f (Refused R.Shape) ≡ write_call a r f
+  pub write_shape : shape? a r ≡ false → written f (Err R.Shape) ≡ write_call a r f
   unfolding write_call
   write_shape e = rw (e, write_call)
 
-  pub write-length : (length f ≡ image_bytes newest (length a) → ⊥) → written f (Refused R.Shape) ≡ write_call a r f
+  pub write-length : (length f ≡ image_bytes newest (length a) → ⊥) → written f (Err R.Shape) ≡ write_call a r f
   unfolding write_call
   write-length h = by (shape? a r) refl
     where
-      by : (t : Bool) → shape? a r ≡ t → written f (Refused R.Shape) ≡ write_call a r f
+      by : (t : Bool) → shape? a r ≡ t → written f (Err R.Shape) ≡ write_call a r f
       by true e = rw (e, ne_eqb (length f) (image_bytes newest (length a)) h, write_call)
       by false e = write_shape e
 
-  pub write-through : shape? a r ≡ true → length f ≡ image_bytes newest (length a) → written (image a r) Done ≡ write_call a r f
+  pub write-through : shape? a r ≡ true → length f ≡ image_bytes newest (length a) → written (image a r) (Ok Done) ≡ write_call a r f
   unfolding write_call
   write-through s e = rw (s, eq-eqb (length f) (image_bytes newest (length a)) e, write_call)
 
   -- g, as long as f, begins with the image, and so is the image
   pub write_done : (n : ℕ) (g : List ℕ) → shape? a r ≡ true → length f ≡ image_bytes newest (length a) → length g ≡ length f → take n g ≡ image a r
-      → written g Done ≡ write_call a r f
+      → written g (Ok Done) ≡ write_call a r f
   write_done n g s e k q = rw (whole n g (image a r) (omega (arith, length-image a r, shape-long a r s)) q) (write-through s e)
 
 -- the five parts, each put behind those before it
@@ -153,26 +153,26 @@ known-true v e = let p = both_yes (leb 1 v) (leb v newest) e in (leb-true 1 v p.
 
 -- ---- what is made of a heap that was read
 module _ (v : ℕ) (a r : List ℕ) where
-  pub heap-new : newest ≤ v → after_reading a r (Read (audit_by v (arena_words a) (words_of r))) ≡ heap_read v a r
+  pub heap-new : newest ≤ v → after_reading a r (Ok (audit_by v (arena_words a) (words_of r))) ≡ heap_read v a r
   heap-new l = rw (le-ltb v newest l, heap_read)
 
-  pub heap-unsound : sound? (audit_by v (arena_words a) (words_of r)) ≡ false → after_reading a r (Read (audit_by v (arena_words a) (words_of r))) ≡ heap_read v a r
+  pub heap-unsound : sound? (audit_by v (arena_words a) (words_of r)) ≡ false → after_reading a r (Ok (audit_by v (arena_words a) (words_of r))) ≡ heap_read v a r
   heap-unsound e = ap (λ (t : Bool). elim t [
-    | true ↦ after_reading (completed v (heap_in a r) a) r (Read (audit_by v (arena_words a) (words_of r)))
-    | false ↦ after_reading a r (Read (audit_by v (arena_words a) (words_of r)))
+    | true ↦ after_reading (completed v (heap_in a r) a) r (Ok (audit_by v (arena_words a) (words_of r)))
+    | false ↦ after_reading a r (Ok (audit_by v (arena_words a) (words_of r)))
   ]) (sym (ap (both (ltb v newest)) e ∙ never_both (ltb v newest)))
     where
       never_both : (t : Bool) → both t false ≡ false
       never_both true = refl
       never_both false = refl
 
-  pub heap-completed : v < newest → sound? (audit_by v (arena_words a) (words_of r)) ≡ true → after_reading (completed v (heap_in a r) a) r (Read (audit_by v (arena_words a) (words_of r))) ≡ heap_read v a r
+  pub heap-completed : v < newest → sound? (audit_by v (arena_words a) (words_of r)) ≡ true → after_reading (completed v (heap_in a r) a) r (Ok (audit_by v (arena_words a) (words_of r))) ≡ heap_read v a r
   heap-completed l e = rw (lt-ltb v newest l, heap_read) (rw e)
 
 -- what holds of each way to make it holds of what is made
 pub heap-cases : (P : AfterReading → Type 0) (v : ℕ) (a r : List ℕ)
-    → ((newest ≤ v) ⊎ (sound? (audit_by v (arena_words a) (words_of r)) ≡ false) → P (after_reading a r (Read (audit_by v (arena_words a) (words_of r)))))
-    → (v < newest → sound? (audit_by v (arena_words a) (words_of r)) ≡ true → P (after_reading (completed v (heap_in a r) a) r (Read (audit_by v (arena_words a) (words_of r)))))
+    → ((newest ≤ v) ⊎ (sound? (audit_by v (arena_words a) (words_of r)) ≡ false) → P (after_reading a r (Ok (audit_by v (arena_words a) (words_of r)))))
+    → (v < newest → sound? (audit_by v (arena_words a) (words_of r)) ≡ true → P (after_reading (completed v (heap_in a r) a) r (Ok (audit_by v (arena_words a) (words_of r)))))
     → P (heap_read v a r)
 heap-cases P v a r same full = ⊎_elim
     (λ l. by l (sound? (audit_by v (arena_words a) (words_of r))) refl)
@@ -185,15 +185,15 @@ heap-cases P v a r same full = ⊎_elim
 
 -- ---- reading
 module _ (f a r : List ℕ) where
-  pub read-no-mark : marked? f ≡ false → after_reading a r NoMark ≡ read_call f a r
+  pub read-no-mark : marked? f ≡ false → after_reading a r (Err NoMark) ≡ read_call f a r
   unfolding read_call
   read-no-mark e = rw (e, read_call)
 
-  pub read-no-version : marked? f ≡ true → known? (version_in f) ≡ false → after_reading a r NoVersion ≡ read_call f a r
+  pub read-no-version : marked? f ≡ true → known? (version_in f) ≡ false → after_reading a r (Err NoVersion) ≡ read_call f a r
   unfolding read_call
   read-no-version e v = rw (e, read_call) (rw v)
 
-  pub read-wrong-length : marked? f ≡ true → known? (version_in f) ≡ true → fits? f a r ≡ false → after_reading a r WrongLength ≡ read_call f a r
+  pub read-wrong-length : marked? f ≡ true → known? (version_in f) ≡ true → fits? f a r ≡ false → after_reading a r (Err WrongLength) ≡ read_call f a r
   unfolding read_call
   read-wrong-length e v t = rw (e, read_call) (rw (v, t))
 
@@ -234,13 +234,13 @@ same_shape m n m₀ n₀ e f s = rw (e, f) s
 
 -- ---- what holds of each way through a call holds of the call
 pub write-cases : (P : Written → Type 0) (a r f : List ℕ)
-    → (((shape? a r ≡ true) × (length f ≡ image_bytes newest (length a)) → ⊥) → P (written f (Refused R.Shape)))
-    → (shape? a r ≡ true → length f ≡ image_bytes newest (length a) → P (written (image a r) Done))
+    → (((shape? a r ≡ true) × (length f ≡ image_bytes newest (length a)) → ⊥) → P (written f (Err R.Shape)))
+    → (shape? a r ≡ true → length f ≡ image_bytes newest (length a) → P (written (image a r) (Ok Done)))
     → P (write_call a r f)
 unfolding write_call
 write-cases P a r f one ok = by (both (shape? a r) (eqb (length f) (image_bytes newest (length a)))) refl
   where
     by : (t : Bool) → both (shape? a r) (eqb (length f) (image_bytes newest (length a))) ≡ t
-        → P (elim t [ true ↦ written (image a r) Done | false ↦ written f (Refused R.Shape) ])
+        → P (elim t [ true ↦ written (image a r) (Ok Done) | false ↦ written f (Err R.Shape) ])
     by true e = let p = both_yes (shape? a r) (eqb (length f) (image_bytes newest (length a))) e in ok p.0 (eqb-true (length f) (image_bytes newest (length a)) p.1)
     by false e = one (λ p. never (sym e ∙ yes_both (shape? a r) _ p.0 (eq-eqb (length f) (image_bytes newest (length a)) p.1)))

@@ -6,9 +6,8 @@ mod write; // write.rt
 mod read; // read.rt
 
 ghost use Rattle.std.specs.Prelude.{◌≡◌};
-ghost use Rattle.image.specs.Image.{record_bytes_by};
+ghost use Rattle.image.specs.Image.{record_bytes_by, unread_no};
 
-use machine::Audited;
 pub use read::{length_in, read_image, version_in};
 use sizes::{NEWEST, RECORD_BYTES};
 pub use write::write_image;
@@ -43,11 +42,23 @@ pub fn record_bytes(v: u16) -> usize
     RECORD_BYTES
 }
 
-// What a reading answers: the audit of the heap that was read, or why it is refused, in the order in which it is tested: document 02's numbers 6, 7 and 1.
+// Why a reading is refused, in the order in which it is tested: document 02's numbers 6, 7 and 1.
 #[derive(Clone, Copy)]
-pub enum Reading {
+pub enum Unread {
     NoMark,
     NoVersion,
     WrongLength,
-    Read(Audited),
+}
+
+impl Unread {
+    // The document's number.
+    pub fn no(self) -> u32
+        ensures { result ≡ unread_no self }
+    {
+        match self {
+            Unread::NoMark => 6,
+            Unread::NoVersion => 7,
+            Unread::WrongLength => 1,
+        }
+    }
 }

@@ -9,33 +9,26 @@ ghost use Rattle.sound.specs.Relation.{SoundBy};
 ghost use Rattle.image.specs.Image.{known?, lacked_record, lacked_keys, lacked_skips, lacked, after_reading, heap_read, read_call, marked?, version_in, length_in, fits?};
 ghost use Rattle.image.specs.Completed.{Old};
 
-use crate::{LENGTH_AT, RECORD_AT, RECORD_BYTES_1, Reading, VERSION, VERSION_AT, record_bytes};
+use crate::{LENGTH_AT, RECORD_AT, RECORD_BYTES_1, Unread, VERSION, VERSION_AT, record_bytes};
+use machine::Fault;
 use sizes::MOST_ARENA;
-use text::put_bytes;
+use text::Page;
 
 fn marked(file: &[u8]) -> bool
     ensures { result ≡ marked? file.now }
 {
-    if file.len() < LENGTH_AT {
-        return false;
-    }
-    if file[0] != b'H' {
-        return false;
-    }
-    if file[1] != b'P' {
-        return false;
-    }
-    file[2] == b'I'
+    file.len() >= LENGTH_AT && file.starts_with(b"HPI")
 }
 
 pub fn version_in(file: &[u8]) -> u16
     requires { 5 ≤ length file.now }
     ensures { result ≡ version_in file.now }
 {
-    (file[VERSION_AT] as u16) + 256 * (file[VERSION_AT + 1] as u16)
+    le::read(file, VERSION_AT)
 }
 
 // The arena length in the file, where it has one that a buffer can be lent for.
+// Kept: 0 where there is none, since it promises a length to lend whatever the file, and cannot fail (`upper_bound`, `value`).
 pub fn length_in(file: &[u8]) -> usize
     ensures upper_bound { result ≤ 262144 }
     ensures value { 9 ≤ length file.now → length_in file.now ≤ 262144 → result ≡ length_in file.now }
@@ -43,7 +36,7 @@ pub fn length_in(file: &[u8]) -> usize
     if file.len() < RECORD_AT {
         return 0;
     }
-    let n = le::read4(file, LENGTH_AT) as usize;
+    let n = le::read::<u32>(file, LENGTH_AT) as usize;
     if MOST_ARENA < n {
         return 0;
     }
@@ -53,10 +46,7 @@ pub fn length_in(file: &[u8]) -> usize
 fn known(v: u16) -> bool
     ensures { result ≡ known? v }
 {
-    if v < 1 {
-        return false;
-    }
-    v <= VERSION
+    (1..=VERSION).contains(&v)
 }
 
 // Whether the length in the file, which is of version v, is allowed, the file's and that of the lent arena, and the lent record is one.
@@ -70,7 +60,7 @@ fn fits(file: &[u8], v: u16, arena: &[u8], control: &[u8]) -> bool
     if file.len() != RECORD_AT + record_bytes(v) + arena.len() {
         return false;
     }
-    le::read4(file, LENGTH_AT) as usize == arena.len()
+    le::read::<u32>(file, LENGTH_AT) as usize == arena.len()
 }
 
 // What a record of 1,572 bytes lacks: key 0 and edition 1.
@@ -82,8 +72,12 @@ fn put_record(control: &mut [u8], part: &[u8])
     ensures { control.new ≡ part.now ++ drop (length part.now - 1572) lacked_record }
 {
     let from = part.len() - RECORD_BYTES_1;
-    let n = put_bytes(control, 0, part);
-    put_bytes(control, n, &LACKED[from..]);
+    let mut page = Page {
+        out: control,
+        at: 0,
+    };
+    page.bytes(part);
+    page.bytes(&LACKED[from..]);
 }
 
 // The keys that a heap of version v lacks: before version 2 those of its cached chunks.
@@ -121,7 +115,7 @@ fn complete(arena: &mut [u8], r: &[u32], v: u16)
 }
 
 // The heap that was read from a file of version v, and its audit by that version's rules; an older one that is sound gets what it lacks.
-fn heap_read(arena: &mut [u8], control: &[u8], v: u16) -> Reading
+fn heap_read(arena: &mut [u8], control: &[u8], v: u16) -> Result<Result<(), Fault>, Unread>
     requires { (shape? arena.old control.now ≡ true) × (known? v ≡ true) }
     ensures { after_reading arena.new control.now result ≡ heap_read v arena.old control.now }
 {
@@ -129,30 +123,34 @@ fn heap_read(arena: &mut [u8], control: &[u8], v: u16) -> Reading
     record_words::read_words(control, &mut r);
     let x = audit::audit_by(arena, &r, v as u32);
     if VERSION <= v {
-        return Reading::Read(x);
+        return Ok(x);
     }
     if !machine::is_sound(x) {
-        return Reading::Read(x);
+        return Ok(x);
     }
     complete(arena, &r, v);
-    Reading::Read(x)
+    Ok(x)
 }
 
-pub fn read_image(file: &[u8], arena: &mut [u8], control: &mut [u8]) -> Reading
+pub fn read_image(
+    file: &[u8],
+    arena: &mut [u8],
+    control: &mut [u8],
+) -> Result<Result<(), Fault>, Unread>
     ensures { after_reading arena.new control.new result ≡ read_call file.now arena.old control.old }
 {
     if !marked(file) {
-        return Reading::NoMark;
+        return Err(Unread::NoMark);
     }
     let v = version_in(file);
     if !known(v) {
-        return Reading::NoVersion;
+        return Err(Unread::NoVersion);
     }
     if !fits(file, v, arena, control) {
-        return Reading::WrongLength;
+        return Err(Unread::WrongLength);
     }
     let at = RECORD_AT + record_bytes(v);
     put_record(control, &file[RECORD_AT..at]);
-    put_bytes(arena, 0, &file[at..]);
+    arena.copy_from_slice(&file[at..]);
     heap_read(arena, control, v)
 }

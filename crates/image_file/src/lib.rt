@@ -1,14 +1,46 @@
-// -o FILE: a file that is written whole or not at all, under a temporary name beside it, then renamed. What goes wrong is said on standard error, and nothing
-// else is written there. Assumes nothing of its own: the files, the arguments and standard error are std's, and no clause of std says what the system does.
+// What the programs on images share. An image that is read whole from an input. And -o FILE: a file that is written whole or not at all, under a temporary name
+// beside it, then renamed; what goes wrong is said on standard error, and nothing else is written there. Assumes nothing of its own: the input, the files, the
+// arguments and standard error are std's, and no clause of std says what the system does.
 #![tactic(auto)]
 
-ghost use Rattle.std.specs.Prelude.{◌≡◌, ◌≤◌, length};
+ghost use Rattle.std.specs.Prelude.{◌≡◌, ◌≤◌, length, replicate};
 
 use std::env::{Env, FillError};
 use std::fs::{Files, OpenFile};
-use std::io::Write;
+use std::io::{Read, Write};
 use std::{fs, io};
-use text::put_bytes;
+use text::Page;
+
+// How long the longest image is.
+pub const LONGEST_IMAGE: usize = 263737;
+
+// The length of a buffer for an image that is read, which has one byte more: a file that fills it is too long.
+pub const IMAGE_ROOM: usize = LONGEST_IMAGE + 1;
+
+// Kept: not an array of a program's main, whose check it would make many times longer (b).
+pub fn image_room() -> [u8; IMAGE_ROOM]
+    ensures { result ≡ replicate 263738 0 }
+{
+    [0u8; IMAGE_ROOM]
+}
+
+// Reads until the buffer is full, the input ends or a read fails: how many bytes stand at its start.
+pub fn read_full(from: &mut impl Read, buf: &mut [u8]) -> usize
+    ensures { result ≤ length buf.new }
+{
+    let mut done = 0;
+    while done < buf.len() {
+        let n = from.read(&mut buf[done..]).unwrap_or(0);
+        if n == 0 {
+            break;
+        }
+        done += n;
+    }
+    done
+}
+
+// How long the longest path is that is taken.
+const LONGEST_PATH: usize = 4096;
 
 // The temporary name: the path and .part.
 fn part_of(path: &[u8], part: &mut [u8]) -> usize
@@ -16,16 +48,18 @@ fn part_of(path: &[u8], part: &mut [u8]) -> usize
     requires part_len { length part.old ≡ 4101 }
     ensures { result ≤ 4101 }
 {
-    let n = put_bytes(part, 0, path);
-    put_bytes(part, n, b".part")
+    let mut page = Page { out: part, at: 0 };
+    page.bytes(path);
+    page.bytes(b".part");
+    page.at
 }
 
 // std names a file by text: any other name is an error.
 fn text_of(name: &[u8]) -> io::Result<&str> {
-    match str::from_utf8(name) {
-        Ok(text) => Ok(text),
-        Err(_) => Err(io::Error::new(io::ErrorKind::InvalidFilename, "the name is not UTF-8 text")),
-    }
+    str::from_utf8(name).map_err(|_| io::Error::new(
+        io::ErrorKind::InvalidFilename,
+        "the name is not UTF-8 text",
+    ))
 }
 
 // The file is closed behind it. What the system could not keep of the bytes shows before.
@@ -41,10 +75,7 @@ fn save_as(files: &impl Files, path: &[u8], part: &[u8], n: usize, bytes: &[u8])
     let name = text_of(&part[..n])?;
     let to = text_of(path)?;
     let file = fs::create(files, name)?;
-    let saved = match written(file, bytes) {
-        Ok(()) => fs::rename(files, name, to),
-        Err(e) => Err(e),
-    };
+    let saved = written(file, bytes).and_then(|()| fs::rename(files, name, to));
     if saved.is_err() {
         let _ = fs::remove_file(files, name);
     }
@@ -73,16 +104,6 @@ pub fn save<R: Files + Eprint>(rt: &R, path: &[u8], bytes: &[u8])
     }
 }
 
-fn says_o(a: &[u8]) -> bool {
-    if a.len() != 2 {
-        return false;
-    }
-    if a[0] != b'-' {
-        return false;
-    }
-    a[1] == b'o'
-}
-
 // Whether there is an argument i; one that is longer than the buffer is there too.
 fn is_given(rt: &impl Env, i: usize) -> bool {
     let mut word = [0u8; 1];
@@ -94,20 +115,17 @@ fn is_given(rt: &impl Env, i: usize) -> bool {
 
 // Whether the program's arguments are -o and FILE, and no others.
 pub fn asked(rt: &impl Env) -> bool {
-    if !is_given(rt, 2) {
+    if !is_given(rt, 2) || is_given(rt, 3) {
         return false;
     }
-    if is_given(rt, 3) {
-        return false;
-    }
-    let mut word = [0u8; 4096];
+    let mut word = [0u8; LONGEST_PATH];
     let k = rt.arg(1, &mut word).unwrap_or(0);
-    says_o(&word[..k])
+    &word[..k] == b"-o".as_slice()
 }
 
 // Writes the bytes to that FILE.
 pub fn save_asked<R: Env + Files + Eprint>(rt: &R, bytes: &[u8]) {
-    let mut path = [0u8; 4096];
+    let mut path = [0u8; LONGEST_PATH];
     let k = rt.arg(2, &mut path).unwrap_or(0);
     save(rt, &path[..k], bytes);
 }

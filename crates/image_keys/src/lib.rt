@@ -31,9 +31,7 @@ pub fn write_keys(a: &mut [u8], r: &[u32])
     ensures { (h : Heap) → SoundBy 1 h (arena_words a.old) r.now → arena_words a.new ≡ apply (keys_of h) (arena_words a.old) }
 {
     let q = key_in(r);
-    let mut k: usize = 0;
-    while k < CACHE_LISTS {
+    for k in 0..CACHE_LISTS {
         key_list(a, r, k, q);
-        k += 1;
     }
 }

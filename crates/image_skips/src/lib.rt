@@ -37,10 +37,8 @@ fn write_rings(a: &mut [u8], r: &[u32])
     ensures { (h : Heap) → Linked h (arena_words a.old) r.now
         → arena_words a.new ≡ apply (rings_from 63 64 h) (arena_words a.old) }
 {
-    let mut j = LARGE_BIN;
-    while j <= LAST_BIN {
+    for j in LARGE_BIN..=LAST_BIN {
         renew_ring(a, r, j);
-        j += 1;
     }
 }
 

@@ -1,4 +1,3 @@
-pub mod Texts
 pub mod States
 pub mod Lines
 pub mod Shown

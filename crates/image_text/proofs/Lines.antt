@@ -14,26 +14,9 @@ use Rattle.sound.specs.Tiles.{end-le}
 use Rattle.audit_walks.specs.Tiles.{TilesOk, tiles-later, tile-read}
 use Rattle.audit_walks.specs.Marks.{ArenaBytes, Flagging, starts_of}
 use Rattle.audit_walks.specs.TileTurn.{arena-length}
-use Rattle.text.specs.Text.{blank, newline, decimal, field}
 use Rattle.audit_reached.specs.Reached.{ReachedBy, reached_in, reached_mark}
 use Rattle.image_text.specs.declared.Form.{Form}
-use Rattle.image_text.specs.ImageText.{top_word, state_text, tile_text, class_is, place_is, width_is, title_is, rect_ends, rect_text, form_text, tiles_text}
-
--- ---- a line: its place, its word, its end
-pub line-grouped : (o s : ℕ) (t : List ℕ) → tile_text o s t ≡ (decimal 20 o ++ (field s ++ (blank ∷ []))) ++ (t ++ (newline ∷ []))
-unfolding tile_text
-line-grouped o s t = simp append_assoc
-
--- a rectangle: its class, its measures, its title's word, its end
-pub rect-grouped : (o s : ℕ) (t : List ℕ) → rect_text o s t
-    ≡ class_is
-    ++ (t
-    ++ ((place_is ++ (decimal 20 o ++ (width_is ++ (decimal 20 s ++ (title_is ++ (decimal 20 o ++ (field s ++ (blank ∷ [])))))))) ++ (t ++ rect_ends)))
-unfolding rect_text
-rect-grouped o s t = simp append_assoc
-
-pub form_of : {f g : Form} (o s : ℕ) (p t : List ℕ) {x : List ℕ} → f ≡ g → x ≡ p ++ form_text g o s t → x ≡ p ++ form_text f o s t
-form_of o s p t e h = rw e h
+use Rattle.image_text.specs.ImageText.{top_word, state_text, form_text, tiles_text}
 
 line-more : (f : Form) (list : ℕ → ℕ) (n o : ℕ) (t : Tile) (ts : List Tile) (x y : List ℕ) → y ≡ x ++ form_text f o t.size (state_text (list o))
     → y ++ tiles_text f list n (o + t.size) ts ≡ x ++ tiles_text f list n o (t ∷ ts)

@@ -1,21 +1,22 @@
 -- What heapimage prints of a file: its version and length, with -v the edition, the audit's answer, and a line for each tile with its state, by the rules of that
 -- version. Definitions only.
-use Rattle.std.specs.Prelude.{◌≡◌, List, [], ◌∷◌, ◌++◌, Bool, true, false, ℕ, ◌+◌, ◌-◌, ltb, length, replicate}
+use Rattle.std.specs.Prelude.{◌≡◌, List, [], ◌∷◌, ◌++◌, Bool, true, false, ℕ, ◌+◌, ◌-◌, ltb, length, replicate, Ok, Err}
 use Rattle.le.specs.Arena.{arena_words}
 use Rattle.sizes.specs.Limits.{record_bytes}
 use Rattle.machine.specs.Heap.{Tile}
 use Rattle.machine.specs.View.{kind_at, tiles_of, edition_in}
-use Rattle.machine.specs.Audit.{audit_by}
+use Rattle.machine.specs.Audit.{audit_by, Audited}
 use Rattle.machine.specs.Calls.{shape?, words_of}
-use Rattle.machine.specs.declared.{ListKind.ListKind, Audited.Audited}
+use Rattle.machine.specs.declared.{ListKind.ListKind}
 use Rattle.machine.specs.declared.ListKind.TheVariants.{Cache, Fast, Bin}
-use Rattle.machine.specs.declared.Audited.TheVariants as A
+use Rattle.machine.specs.declared.Fault.TheVariants as A
 use Rattle.text.specs.Text.{newline, blank, decimal, field, question_text}
 use Rattle.image_text.specs.declared.Form.{Form}
 use Rattle.image_text.specs.declared.Form.TheVariants.{Lines, Rects}
-use Rattle.audit_reached.specs.Reached.{reached_in}
+use Rattle.image_text.specs.declared.State.{State}
+use Rattle.image_text.specs.declared.State.TheVariants.{Top, Marked}
+use Rattle.audit_reached.specs.Reached.{first_mark, reached_in, reached_mark, tiled?}
 use Rattle.image.specs.Image.{version_in, length_in, read_call, AfterReading, after_reading, reading_numbers}
-use Rattle.image.specs.declared.Reading.TheVariants.{NoMark, NoVersion, WrongLength, Read}
 
 -- ---- the words: image, edition, sound, fault, record, tile, flag, cache, fast, bin, live, top
 abbrev pub image_word : List ℕ
@@ -75,16 +76,29 @@ abbrev pub after_fault : List ℕ → List ℕ
 after_fault t = fault_word ++ (blank ∷ (t ++ (newline ∷ [])))
 
 unfoldable pub audit_text : Audited → List ℕ
-audit_text A.Sound = sound_word ++ (newline ∷ [])
-audit_text A.Record = after_fault record_word
-audit_text (A.Tile o) = after_fault (tile_word ++ field o)
-audit_text (A.List k) = after_fault (list_text k)
-audit_text (A.Flag o) = after_fault (flag_word ++ field o)
-audit_text A.Shape = []
+audit_text (Ok u) = sound_word ++ (newline ∷ [])
+audit_text (Err A.Record) = after_fault record_word
+audit_text (Err (A.Tile o)) = after_fault (tile_word ++ field o)
+audit_text (Err (A.List k)) = after_fault (list_text k)
+audit_text (Err (A.Flag o)) = after_fault (flag_word ++ field o)
+audit_text (Err A.Shape) = []
 
 -- ---- OFFSET SIZE STATE, by rising offset, the top last. The state is the list that reaches the chunk (each is walked up to its first bad chunk), or live
 unfoldable pub state_text : ℕ → List ℕ
 state_text i = elim (ltb i 200) [ true ↦ list_text (kind_at i) | false ↦ live_word ]
+
+-- what may be told of a tile: of the top its name; of a chunk, by its mark, the state of a list's number
+abbrev pub Told : State → List ℕ → Type 0
+Told Top t = t ≡ top_word
+Told (Marked m) t = (i : ℕ) × (m ≡ reached_mark i) × (t ≡ state_text i)
+
+-- what is told: a mark below the first list's is that of no list
+unfoldable pub mark_text : ℕ → List ℕ
+mark_text m = elim (ltb m first_mark) [ true ↦ live_word | false ↦ list_text (kind_at (m - first_mark)) ]
+
+abbrev pub told_text : State → List ℕ
+told_text Top = top_word
+told_text (Marked m) = mark_text m
 
 unfoldable pub tile_text : ℕ → ℕ → List ℕ → List ℕ
 tile_text o s t = decimal 20 o ++ (field s ++ (blank ∷ (t ++ (newline ∷ []))))
@@ -122,15 +136,6 @@ tiles_text f list n o (t ∷ ts) = form_text f o t.size (state_text (list o)) ++
 abbrev pub arena_text : Form → ℕ → List ℕ → List ℕ → List ℕ
 arena_text f v a w = tiles_text f (reached_in v (arena_words a) w) (length a) 0 (tiles_of (arena_words a))
 
--- there are tiles to show unless the fault is record or tile
-abbrev pub tiled? : Audited → Bool
-tiled? A.Sound = true
-tiled? A.Record = false
-tiled? (A.Tile o) = false
-tiled? (A.List k) = true
-tiled? (A.Flag o) = true
-tiled? A.Shape = false
-
 -- ---- arena bytes a and record bytes r, of a good shape, of which the audit by the rules of version v says x
 pub record AuditedBy (v : ℕ) (a r : List ℕ) (x : Audited) : Type 0 where
   pub shape : shape? a r ≡ true
@@ -142,10 +147,8 @@ heap_text e v a r x = first_text e v (length a) r ++ (audit_text x ++ elim (tile
 
 -- ---- a file: what is read of it, of version v, into buffers of the right lengths, or `? N`
 abbrev pub read_text : Bool → ℕ → AfterReading → List ℕ
-read_text e v (after_reading a r NoMark) = question_text (reading_numbers NoMark).no
-read_text e v (after_reading a r NoVersion) = question_text (reading_numbers NoVersion).no
-read_text e v (after_reading a r WrongLength) = question_text (reading_numbers WrongLength).no
-read_text e v (after_reading a r (Read x)) = heap_text e v a r x
+read_text e v (after_reading a r (Err u)) = question_text (reading_numbers (Err u)).no
+read_text e v (after_reading a r (Ok x)) = heap_text e v a r x
 
 unfoldable pub image_text : Bool → List ℕ → List ℕ
 image_text e f = read_text e (version_in f) (read_call f (replicate (length_in f) 0) (replicate record_bytes 0))

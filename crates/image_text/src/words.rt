@@ -1,76 +1,89 @@
 // The audit's answer and a chunk's state, in words.
-ghost use Rattle.std.specs.Prelude.{◌≡◌, ◌++◌, ℕ, ◌+◌, ◌≤◌, length, take};
-ghost use Rattle.audit_reached.specs.Reached.{reached_mark};
-ghost use Rattle.image_text.specs.ImageText.{list_text, audit_text, state_text};
+ghost use Rattle.std.specs.Prelude.{Err};
+ghost use Rattle.text.specs.Pages.{Room, Adds};
+ghost use Rattle.image_text.specs.ImageText.{list_text, audit_text, mark_text, told_text};
 
+use crate::State;
 use audit_reached::FIRST_MARK;
-use machine::{Audited, ListKind};
-use text::{put_byte, put_bytes, put_field};
+use machine::{Fault, ListKind};
+use text::Page;
 
-pub fn put_list(out: &mut [u8], at: usize, k: ListKind) -> usize
-    requires { at + 26 ≤ length out.old }
-    ensures upper_bound { result ≤ at + 26 }
-    ensures out_after { take result out.new ≡ take at out.old ++ list_text k }
+pub fn put_list(page: &mut Page, k: ListKind)
+    requires { Room 26 page.old }
+    ensures { Adds 26 page.old page.new (list_text k) }
 {
     match k {
         ListKind::Cache(i) => {
-            let m = put_bytes(out, at, b"cache");
-            return put_field(out, m, i as u64);
+            page.bytes(b"cache");
+            page.field(i as u64);
         }
         ListKind::Fast(i) => {
-            let m = put_bytes(out, at, b"fast");
-            return put_field(out, m, i as u64);
+            page.bytes(b"fast");
+            page.field(i as u64);
         }
         ListKind::Bin(j) => {
-            let m = put_bytes(out, at, b"bin");
-            return put_field(out, m, j as u64);
+            page.bytes(b"bin");
+            page.field(j as u64);
         }
     }
 }
 
 // The line of the audit's answer.
-pub fn put_audit(out: &mut [u8], at: usize, x: Audited) -> usize
-    requires { at + 40 ≤ length out.old }
-    ensures upper_bound { result ≤ at + 40 }
-    ensures out_after { take result out.new ≡ take at out.old ++ audit_text x }
+pub fn put_audit(page: &mut Page, x: Result<(), Fault>)
+    requires { Room 40 page.old }
+    ensures { Adds 40 page.old page.new (audit_text x) }
 {
     match x {
-        Audited::Sound => {
-            return put_bytes(out, at, b"sound\n");
-        }
-        Audited::Record => {
-            return put_bytes(out, at, b"fault record\n");
-        }
-        Audited::Tile(o) => {
-            let a0 = put_bytes(out, at, b"fault tile");
-            let a1 = put_field(out, a0, o as u64);
-            return put_byte(out, a1, b'\n');
-        }
-        Audited::List(k) => {
-            let a0 = put_bytes(out, at, b"fault ");
-            let a1 = put_list(out, a0, k);
-            return put_byte(out, a1, b'\n');
-        }
-        Audited::Flag(o) => {
-            let a0 = put_bytes(out, at, b"fault flag");
-            let a1 = put_field(out, a0, o as u64);
-            return put_byte(out, a1, b'\n');
-        }
-        Audited::Shape => {
-            return at;
-        }
+        Ok(()) => page.bytes(b"sound\n"),
+        Err(fault) => put_fault(page, fault),
     }
 }
 
-// The state of a chunk by its mark: the list that reaches it, or live.
-pub fn put_state(out: &mut [u8], at: usize, mark: u8) -> usize
-    requires { at + 26 ≤ length out.old }
-    ensures upper_bound { result ≤ at + 26 }
-    ensures by_index { (i : ℕ) → mark ≡ reached_mark i → take result out.new ≡ take at out.old ++ state_text i }
+// That of a fault.
+fn put_fault(page: &mut Page, fault: Fault)
+    requires { Room 40 page.old }
+    ensures { Adds 40 page.old page.new (audit_text (Err fault)) }
+{
+    match fault {
+        Fault::Record => page.bytes(b"fault record\n"),
+        Fault::Tile(o) => {
+            page.bytes(b"fault tile");
+            page.field(o as u64);
+            page.byte(b'\n');
+        }
+        Fault::List(k) => {
+            page.bytes(b"fault ");
+            put_list(page, k);
+            page.byte(b'\n');
+        }
+        Fault::Flag(o) => {
+            page.bytes(b"fault flag");
+            page.field(o as u64);
+            page.byte(b'\n');
+        }
+        Fault::Shape => {}
+    }
+}
+
+// By its mark, the list that reaches a chunk, or live.
+fn put_mark(page: &mut Page, mark: u8)
+    requires { Room 26 page.old }
+    ensures { Adds 26 page.old page.new (mark_text mark) }
 {
     if mark < FIRST_MARK {
-        return put_bytes(out, at, b"live");
+        page.bytes(b"live");
+        return;
     }
     let i = (mark - FIRST_MARK) as u32;
-    put_list(out, at, audit_lists::kind_at(i))
+    put_list(page, audit_lists::kind_at(i));
+}
+
+pub fn put_state(page: &mut Page, state: State)
+    requires { Room 26 page.old }
+    ensures { Adds 26 page.old page.new (told_text state) }
+{
+    match state {
+        State::Top => page.bytes(b"top"),
+        State::Marked(mark) => put_mark(page, mark),
+    }
 }

@@ -3,6 +3,8 @@
 use Rattle.std.specs.Prelude.{◌≡◌, refl, Bool, true, false, List, [], ◌∷◌, ◌++◌, ◌⊎◌, ℕ, zero, suc, ◌+◌, ◌*◌, ◌/◌, ◌%◌, ◌^◌, ◌≤◌, ◌<◌, ltb, eqb, length, get_or, set, take, drop}
 use Rattle.std.proofs.Common.{sym, ap, ◌∙◌, inl, inr, add-suc, mul-zero, mul-suc, pow-suc, mul-le-mul_left, le_of_suc-le-suc, not-suc-le-zero, arith, length-append, length-set, length-drop, take-append-drop, get_or-set_same, get_or-set_other, get_or-drop, drop_at, ext_get_or, ltb-true, ltb-false, eqb-true}
 use Rattle.std.proofs.lemmas.Bool.{eqb-false}
+use Rattle.std.proofs.Math.Nat.{div-div-eq-div-mul}
+use Rattle.std.specs.Int.{byte_at, bytes_low_first}
 use Rattle.le.specs.Number.{number_from, number, put, words, digits, bytes}
 use Rattle.le.specs.NumberLaws.{number-put-same, number-put-other, number-drop}
 
@@ -53,6 +55,22 @@ pub length_digits : (n v : ℕ) → length (digits n v) ≡ n
 unfolding digits
 length_digits zero v = refl
 length_digits (suc n) v = ap suc (length_digits n (v / 256))
+
+-- the bytes that std makes of a number, from byte i on
+byte_at-div : (i v : ℕ) → byte_at i v ≡ v / 256 ^ i % 256
+byte_at-div zero v = omega arith
+byte_at-div (suc i) v = refl
+
+low_first-digits : (n i v : ℕ) → bytes_low_first i n v ≡ digits n (v / 256 ^ i)
+unfolding digits
+low_first-digits zero i v = refl
+low_first-digits (suc n) i v =
+    let next : v / 256 ^ suc i ≡ v / 256 ^ i / 256 = rw (div-div-eq-div-mul, pow-suc) refl in
+    rw (byte_at-div i v, low_first-digits n (suc i) v, next) refl
+
+-- all of them: the digits of the number
+pub le_bytes-digits : (n v : ℕ) → bytes_low_first 0 n v ≡ digits n v
+le_bytes-digits n v = let one : v / 256 ^ 0 ≡ v = omega arith in rw one at (low_first-digits n 0 v)
 
 pub length-bytes : (n : ℕ) (ws : List ℕ) → length (bytes n ws) ≡ n * length ws
 unfolding bytes

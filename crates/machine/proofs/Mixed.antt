@@ -1,5 +1,6 @@
 -- The two editions compute: how a link is stored, by its own position and not its chunk's, the end mark alike; which links a release writes so; and the numbers of an open
 -- that is refused for its edition. Assumes nothing.
+use Rattle.std.specs.Prelude.{Err}
 use mathlib.Core.Path.{◌≡◌, refl}
 use mathlib.Core.Bool.{true, false}
 use mathlib.Core.List.{List, [], ◌∷◌}
@@ -14,7 +15,6 @@ use Rattle.machine.specs.Writes.{Write, who, field, value}
 use Rattle.machine.specs.Audit.{edition?}
 use Rattle.machine.specs.Calls.{after, closed_record, open_call}
 use Rattle.machine.specs.declared.Refusal.TheVariants as R
-use Rattle.machine.specs.declared.Answer.TheVariants.{Refused}
 use Rattle.machine.proofs.Script.{Line, G, R, script_by, writes_after, same?}
 
 -- ---- a link to the chunk 32, and the end mark, as edition 2 stores them: at 4,064 the link field's own position is 4,080, at 4,080 it is 4,096
@@ -53,14 +53,14 @@ binned-links = refl
 editions : edition? 0 ∷ edition? 1 ∷ edition? 2 ∷ edition? 3 ∷ [] ≡ false ∷ true ∷ true ∷ false ∷ []
 editions = refl
 
-number-12 : open_call (replicate 32 0) (replicate 1584 0) 99 3 ≡ after (replicate 32 0) (bytes 4 closed_record) (Refused R.Edition)
+number-12 : open_call (replicate 32 0) (replicate 1584 0) 99 3 ≡ after (replicate 32 0) (bytes 4 closed_record) (Err R.Edition)
 unfolding open_call
 number-12 = refl
 
-number-1-first : open_call (replicate 24 0) (replicate 1584 0) 99 3 ≡ after (replicate 24 0) (bytes 4 closed_record) (Refused R.Shape)
+number-1-first : open_call (replicate 24 0) (replicate 1584 0) 99 3 ≡ after (replicate 24 0) (bytes 4 closed_record) (Err R.Shape)
 unfolding open_call
 number-1-first = refl
 
-number-1-writes-nothing : open_call (replicate 32 0) (replicate 1580 0) 99 3 ≡ after (replicate 32 0) (replicate 1580 0) (Refused R.Shape)
+number-1-writes-nothing : open_call (replicate 32 0) (replicate 1580 0) 99 3 ≡ after (replicate 32 0) (replicate 1580 0) (Err R.Shape)
 unfolding open_call
 number-1-writes-nothing = refl

@@ -1,5 +1,6 @@
 -- Scripts of heaplog run on the machine's heap, with a key of 99: the steps alone, without the bytes; an emptying and a joining also each alone, E and J.
 -- Definitions only.
+use Rattle.std.specs.Prelude.{Option, Some, None}
 use mathlib.Core.List.{List, [], ◌∷◌, ◌++◌}
 use mathlib.Core.Bool.{Bool, true, false}
 use Prim.Native.Nat.{ℕ, ◌+◌, ◌-◌}
@@ -13,8 +14,6 @@ use Rattle.machine.specs.Release.{absorb, join_next, put_down, join, release_pas
 use Rattle.machine.specs.Grant.{step1, move_fast, step2, take_last, move_lasts, step3, step4, split, sort_in, split_lone, keep, turn_at, turn, swept, sweep, step5, carve, step8, step6, step7, step9, pass, again, from4, seek, grant}
 use Rattle.machine.specs.Resize.{next_p, finish, resize}
 use Rattle.machine.specs.Calls.{After, after}
-use Rattle.machine.specs.declared.{Got.Got}
-use Rattle.machine.specs.declared.Got.TheVariants.{At, Nothing}
 
 pub data Line : Type 0 where
   G : ℕ → Line
@@ -31,9 +30,9 @@ pub data Log : Type 0 where
 abbrev pub logged : List ℕ → List Write → Log → Log
 logged ns ws (log out h vs) = log (ns ++ out) h (ws ++ vs)
 
-abbrev pub on_got : Ran Got → (Heap → Log) → Log
-on_got (ran h ws (At c)) f = logged (0 ∷ (c + 16) ∷ usable (size_of h c) ∷ top_of h ∷ []) ws (f h)
-on_got (ran h ws Nothing) f = logged (5 ∷ 0 ∷ 0 ∷ top_of h ∷ []) ws (f h)
+abbrev pub on_got : Ran (Option ℕ) → (Heap → Log) → Log
+on_got (ran h ws (Some c)) f = logged (0 ∷ (c + 16) ∷ usable (size_of h c) ∷ top_of h ∷ []) ws (f h)
+on_got (ran h ws None) f = logged (5 ∷ 0 ∷ 0 ∷ top_of h ∷ []) ws (f h)
 
 abbrev pub on_done : {A : Type 0} → Ran A → (Heap → Log) → Log
 on_done (ran h ws x) f = logged (0 ∷ 0 ∷ 0 ∷ top_of h ∷ []) ws (f h)

@@ -1,6 +1,6 @@
 -- The audit: the first fault of the heap that words and record spell, in the order record, tiles, lists, flags. By the rules of version v, which are the
 -- newest but for a heap that is read from an older image. Definitions only.
-use Rattle.std.specs.Prelude.{List, [], ◌∷◌, ◌++◌, Bool, true, false, ℕ, suc, ◌+◌, ◌*◌, eqb, ltb, leb, length, get_or, drop}
+use Rattle.std.specs.Prelude.{List, [], ◌∷◌, ◌++◌, Bool, true, false, ℕ, suc, ◌+◌, ◌*◌, eqb, ltb, leb, length, get_or, drop, Result, Ok, Err}
 use Rattle.sizes.specs.Limits.{none64, cache_room, most_fast, unsorted, least_chunk, newest, plain, mixed}
 use Rattle.sizes.specs.Sizes.{bin_of}
 use Rattle.sizes.specs.Layout.{length_word, top_word, cache_count, bin_last, back_word, key_word}
@@ -9,17 +9,17 @@ use Rattle.machine.specs.Heap.{Tile, Heap, starts, end_from, binned}
 use Rattle.machine.specs.Writes.{stand?}
 use Rattle.machine.specs.Skips.{skips}
 use Rattle.machine.specs.View.{size_at, low_at, tile_at, up, kind_at, key_in, edition_in, view}
-use Rattle.machine.specs.declared.{Audited.Audited, ListKind.ListKind}
+use Rattle.machine.specs.declared.{ListKind.ListKind, Fault.Fault}
 use Rattle.machine.specs.declared.ListKind.TheVariants.{Cache, Fast, Bin}
-use Rattle.machine.specs.declared.Audited.TheVariants as A
+use Rattle.machine.specs.declared.Fault.TheVariants as A
+
+-- what an audit answers: sound, or the first fault
+abbrev pub Audited : Type 0
+Audited = Result (Unit {0}) Fault
 
 abbrev pub sound? : Audited → Bool
-sound? A.Sound = true
-sound? A.Record = false
-sound? (A.Tile o) = false
-sound? (A.List k) = false
-sound? (A.Flag o) = false
-sound? A.Shape = false
+sound? (Ok u) = true
+sound? (Err f) = false
 
 -- the first of two answers that is a fault
 abbrev pub first : Audited → Audited → Audited
@@ -30,7 +30,7 @@ abbrev pub edition? : ℕ → Bool
 edition? d = either (eqb d plain) (eqb d mixed)
 
 abbrev pub record_fault : List ℕ → List ℕ → Audited
-record_fault w r = elim (both (eqb (get_or r length_word 0) (8 * length w)) (edition? (edition_in r))) [ true ↦ A.Sound | false ↦ A.Record ]
+record_fault w r = elim (both (eqb (get_or r length_word 0) (8 * length w)) (edition? (edition_in r))) [ true ↦ Ok tt | false ↦ Err A.Record ]
 
 -- ---- Tiles from 0: size a multiple of 16, at least 32, within what remains, bits 1 to 3 clear; the tile that reaches the end is the record's top.
 -- (a multiple of 16 by size_at; all but the last lie within what remains, as tiles_from reads them)
@@ -38,8 +38,8 @@ abbrev pub tile_ok : List ℕ → ℕ → Bool
 tile_ok w o = both (ltb (low_at w o) 2) (leb least_chunk (size_at w o))
 
 unfoldable pub tile_fault : List ℕ → ℕ → ℕ → List Tile → Audited
-tile_fault w top o [] = elim (both (tile_ok w o) (both (eqb (o + size_at w o) (8 * length w)) (eqb top o))) [ true ↦ A.Sound | false ↦ A.Tile o ]
-tile_fault w top o (t ∷ ts) = elim (tile_ok w o) [ true ↦ tile_fault w top (o + t.size) ts | false ↦ A.Tile o ]
+tile_fault w top o [] = elim (both (tile_ok w o) (both (eqb (o + size_at w o) (8 * length w)) (eqb top o))) [ true ↦ Ok tt | false ↦ Err (A.Tile o) ]
+tile_fault w top o (t ∷ ts) = elim (tile_ok w o) [ true ↦ tile_fault w top (o + t.size) ts | false ↦ Err (A.Tile o) ]
 
 -- ---- Lists. A cached chunk has the key in its second word; version 1 does not ask for it
 abbrev pub key_ok : ℕ → List ℕ → List ℕ → ℕ → Bool
@@ -74,11 +74,11 @@ skips_ok v (Bin j) w l = either (ltb v 3) (stand? (skips j (λ x. size_at w x) l
 
 -- list after list, from number i on
 unfoldable pub list_fault : ℕ → List ℕ → List ℕ → ℕ → List ℕ → List (List ℕ) → Audited
-list_fault v w r i left [] = A.Sound
+list_fault v w r i left [] = Ok tt
 list_fault v w r i left (l ∷ ls) =
     elim (both (good_from v (kind_at i) w r left none64 0 l) (skips_ok v (kind_at i) w l)) [
       | true ↦ list_fault v w r (suc i) (minus left l) ls
-      | false ↦ A.List (kind_at i)
+      | false ↦ Err (A.List (kind_at i))
     ]
 
 -- ---- Flags, chunk by chunk: P is clear exactly if the chunk before is in a bin, and the previous size is then its size; no binned chunk touches another
@@ -88,8 +88,8 @@ flag_ok t q s b = elim (eqb q 0) [ true ↦ eqb t.p 1 | false ↦ both (eqb t.p 
 
 -- the tiles, and the top after them
 unfoldable pub flag_fault : (ℕ → ℕ) → Tile → ℕ → ℕ → ℕ → List Tile → Audited
-flag_fault b top o q s [] = elim (flag_ok top q s 1) [ true ↦ A.Sound | false ↦ A.Flag o ]
-flag_fault b top o q s (t ∷ ts) = elim (flag_ok t q s (b o)) [ true ↦ flag_fault b top (o + t.size) (b o) t.size ts | false ↦ A.Flag o ]
+flag_fault b top o q s [] = elim (flag_ok top q s 1) [ true ↦ Ok tt | false ↦ Err (A.Flag o) ]
+flag_fault b top o q s (t ∷ ts) = elim (flag_ok t q s (b o)) [ true ↦ flag_fault b top (o + t.size) (b o) t.size ts | false ↦ Err (A.Flag o) ]
 
 -- ---- the whole
 abbrev pub lists : Heap → List (List ℕ)

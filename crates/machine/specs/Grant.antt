@@ -1,5 +1,5 @@
 -- Grant: document 01's steps 1 to 9, in its words and order, for a chunk size b. Definitions only.
-use Rattle.std.specs.Prelude.{List, [], ◌∷◌, Bool, true, false, ℕ, zero, suc, ◌+◌, ◌-◌, min, eqb, ltb, leb, length}
+use Rattle.std.specs.Prelude.{List, [], ◌∷◌, Bool, true, false, ℕ, zero, suc, ◌+◌, ◌-◌, min, eqb, ltb, leb, length, Option, Some, None}
 use Rattle.sizes.specs.Limits.{none64, most_cached, cache_room, most_fast, large, unsorted, last_bin, least_chunk}
 use Rattle.sizes.specs.Sizes.{cache_of, fast_of, bin_of}
 use Rattle.machine.specs.Lists.{both, hd, lst, some?}
@@ -7,7 +7,7 @@ use Rattle.machine.specs.Heap.{Heap, cache, fast_at, fast, bin, any_fast?, top_s
 use Rattle.machine.specs.Writes.{Ran, ran, does, giving, more, ◌>>=◌, nothing, ◌or_else◌}
 use Rattle.machine.specs.Primitives.{pop, push_cache, take_cache, link_in, put_first, unlink, set_p, set_note, cut_at, cut_top, set_remainder}
 use Rattle.machine.specs.Release.{consolidate}
-use Rattle.machine.specs.declared.{Got.Got, Got.TheVariants.At, Got.TheVariants.Nothing, Turn.Turn}
+use Rattle.machine.specs.declared.{Turn.Turn}
 use Rattle.machine.specs.declared.Turn.TheVariants as T
 
 -- the cache has fewer than 7 of size b
@@ -15,7 +15,7 @@ abbrev pub room_for? : ℕ → Heap → Bool
 room_for? b h = ltb (length (cache h (cache_of b))) cache_room
 
 -- 1. Cache list of b non-empty: take its head.
-unfoldable pub step1 : ℕ → Heap → Ran Got
+unfoldable pub step1 : ℕ → Heap → Ran (Option ℕ)
 step1 b h = elim (both (leb b most_cached) (some? (cache h (cache_of b)))) [ true ↦ take_cache (cache_of b) h | false ↦ nothing h ]
 
 -- 2. b ≤ 128 and the fast list non-empty: take its head, then move heads from there to the cache until the cache has 7 or the list is empty.
@@ -29,9 +29,9 @@ move_fast b (c ∷ l) h = elim (room_for? b h) [
   | false ↦ does h []
 ]
 
-unfoldable pub step2 : ℕ → Heap → Ran Got
+unfoldable pub step2 : ℕ → Heap → Ran (Option ℕ)
 step2 b h = elim (both (leb b most_fast) (some? (fast h (fast_of b)))) [
-  | true ↦ giving (At (hd none64 (fast h (fast_of b)))) do
+  | true ↦ giving (Some (hd none64 (fast h (fast_of b)))) do
     h ← pop (fast_at (fast_of b)) h
     move_fast b (fast h (fast_of b)) h
   | false ↦ nothing h
@@ -54,9 +54,9 @@ move_lasts (suc n) b h = elim (both (room_for? b h) (some? (bin h (bin_of b)))) 
   | false ↦ does h []
 ]
 
-unfoldable pub step3 : ℕ → Heap → Ran Got
+unfoldable pub step3 : ℕ → Heap → Ran (Option ℕ)
 step3 b h = elim (both (ltb b large) (some? (bin h (bin_of b)))) [
-  | true ↦ giving (At (lst none64 (bin h (bin_of b)))) do
+  | true ↦ giving (Some (lst none64 (bin h (bin_of b)))) do
     h ← take_last (bin_of b) (lst none64 (bin h (bin_of b))) h
     move_lasts (length (bin h (bin_of b))) b h
   | false ↦ nothing h
@@ -126,22 +126,22 @@ unfoldable pub turn : ℕ → Heap → Ran Turn
 turn b h = elim (some? (bin h unsorted)) [ true ↦ turn_at b (lst none64 (bin h unsorted)) h | false ↦ ran h [] T.Empty ]
 
 -- If one was cached, grant the cache head.
-unfoldable pub swept : ℕ → Bool → Heap → Ran Got
+unfoldable pub swept : ℕ → Bool → Heap → Ran (Option ℕ)
 swept b got h = elim got [ true ↦ take_cache (cache_of b) h | false ↦ nothing h ]
 
 -- what follows a turn: its chunk granted, or the sweep goes on with one cached, or with one binned, or is at its end
-abbrev pub after_turn : Ran Turn → (Heap → Ran Got) → (Heap → Ran Got) → (Heap → Ran Got) → Ran Got
-after_turn (ran h ws (T.Granted c)) kept sorted over = ran h ws (At c)
+abbrev pub after_turn : Ran Turn → (Heap → Ran (Option ℕ)) → (Heap → Ran (Option ℕ)) → (Heap → Ran (Option ℕ)) → Ran (Option ℕ)
+after_turn (ran h ws (T.Granted c)) kept sorted over = ran h ws (Some c)
 after_turn (ran h ws T.Cached) kept sorted over = more ws (kept h)
 after_turn (ran h ws T.Binned) kept sorted over = more ws (sorted h)
 after_turn (ran h ws T.Empty) kept sorted over = more ws (over h)
 
 -- n turns at most, as each takes a chunk out of unsorted; got: whether one was cached. (Document 02, (xiv), took out "Stop after 10,000 chunks binned".)
-unfoldable pub sweep : ℕ → ℕ → Bool → Heap → Ran Got
+unfoldable pub sweep : ℕ → ℕ → Bool → Heap → Ran (Option ℕ)
 sweep zero b got h = swept b got h
 sweep (suc n) b got h = after_turn (turn b h) (λ g. sweep n b true g) (λ g. sweep n b got g) (λ g. swept b got g)
 
-unfoldable pub step5 : ℕ → Heap → Ran Got
+unfoldable pub step5 : ℕ → Heap → Ran (Option ℕ)
 step5 b h = sweep (length (bin h unsorted)) b false h
 
 -- 8. In 6 and 7: a rest under 32 stays with the block and the next P is set; else split, the rest goes first in unsorted,
@@ -152,8 +152,8 @@ carve c b new? h = elim (ltb (size_of h c - b) least_chunk) [
   | false ↦ elim new? [ true ↦ split c b h >>= set_remainder (c + b) | false ↦ split c b h ]
 ]
 
-unfoldable pub step8 : ℕ → ℕ → ℕ → Bool → Heap → Ran Got
-step8 j c b new? h = giving (At c) (unlink j c h >>= carve c b new?)
+unfoldable pub step8 : ℕ → ℕ → ℕ → Bool → Heap → Ran (Option ℕ)
+step8 j c b new? h = giving (Some c) (unlink j c h >>= carve c b new?)
 
 -- 6. b ≥ 1,024: in its own bin take the smallest that is at least b, the second of its equals if there are several.
 -- the smallest size that is at least b, 0 where there is none; the chunks of size z
@@ -165,48 +165,48 @@ abbrev pub equals : (ℕ → ℕ) → ℕ → List ℕ → List ℕ
 equals sz z [] = []
 equals sz z (x ∷ l) = elim (eqb (sz x) z) [ true ↦ x ∷ equals sz z l | false ↦ equals sz z l ]
 
-abbrev pub second : List ℕ → Got
-second [] = Nothing
-second (x ∷ []) = At x
-second (x ∷ y ∷ l) = At y
+abbrev pub second : List ℕ → Option ℕ
+second [] = None
+second (x ∷ []) = Some x
+second (x ∷ y ∷ l) = Some y
 
-abbrev pub fit : (ℕ → ℕ) → ℕ → List ℕ → Got
-fit sz b l = elim (eqb (least_fit sz b l) 0) [ true ↦ Nothing | false ↦ second (equals sz (least_fit sz b l) l) ]
+abbrev pub fit : (ℕ → ℕ) → ℕ → List ℕ → Option ℕ
+fit sz b l = elim (eqb (least_fit sz b l) 0) [ true ↦ None | false ↦ second (equals sz (least_fit sz b l) l) ]
 
-unfoldable pub step6 : ℕ → Heap → Ran Got
+unfoldable pub step6 : ℕ → Heap → Ran (Option ℕ)
 step6 b h = elim (leb large b) [
-  | true ↦ elim (fit (λ x. size_of h x) b (bin h (bin_of b))) [ At c ↦ step8 (bin_of b) c b false h | Nothing ↦ nothing h ]
+  | true ↦ elim (fit (λ x. size_of h x) b (bin h (bin_of b))) [ Some c ↦ step8 (bin_of b) c b false h | None ↦ nothing h ]
   | false ↦ nothing h
 ]
 
 -- 7. Otherwise the last chunk of the first non-empty bin above b's. (n bins from number j on)
-abbrev pub first_bin : ℕ → ℕ → Heap → Got
-first_bin zero j h = Nothing
-first_bin (suc n) j h = elim (some? (bin h j)) [ true ↦ At j | false ↦ first_bin n (suc j) h ]
+abbrev pub first_bin : ℕ → ℕ → Heap → Option ℕ
+first_bin zero j h = None
+first_bin (suc n) j h = elim (some? (bin h j)) [ true ↦ Some j | false ↦ first_bin n (suc j) h ]
 
-unfoldable pub step7 : ℕ → Heap → Ran Got
-step7 b h = elim (first_bin (last_bin - bin_of b) (suc (bin_of b)) h) [ At j ↦ step8 j (lst none64 (bin h j)) b (ltb b large) h | Nothing ↦ nothing h ]
+unfoldable pub step7 : ℕ → Heap → Ran (Option ℕ)
+step7 b h = elim (first_bin (last_bin - bin_of b) (suc (bin_of b)) h) [ Some j ↦ step8 j (lst none64 (bin h j)) b (ltb b large) h | None ↦ nothing h ]
 
 -- 9. Top of at least b+32: cut b off its front.
-unfoldable pub step9 : ℕ → Heap → Ran Got
+unfoldable pub step9 : ℕ → Heap → Ran (Option ℕ)
 step9 b h = elim (leb (b + 32) (top_size h)) [ true ↦ cut_top b h | false ↦ nothing h ]
 
 -- 5 to 9 once
-unfoldable pub pass : ℕ → Heap → Ran Got
+unfoldable pub pass : ℕ → Heap → Ran (Option ℕ)
 pass b h = step5 b h or_else step6 b or_else step7 b or_else step9 b
 
 -- Else, if a fast list is non-empty, consolidate and go to 5; else refuse. (No fast list holds a chunk then, so this happens once)
-unfoldable pub again : ℕ → Heap → Ran Got
+unfoldable pub again : ℕ → Heap → Ran (Option ℕ)
 again b h = elim (any_fast? h) [ true ↦ consolidate h >>= pass b | false ↦ nothing h ]
 
 -- steps 4 to 9, steps 2 to 9, and all of grant
-unfoldable pub from4 : ℕ → Heap → Ran Got
+unfoldable pub from4 : ℕ → Heap → Ran (Option ℕ)
 from4 b h = do
   h ← step4 b h
   pass b h or_else again b
 
-unfoldable pub seek : ℕ → Heap → Ran Got
+unfoldable pub seek : ℕ → Heap → Ran (Option ℕ)
 seek b h = step2 b h or_else step3 b or_else from4 b
 
-unfoldable pub grant : ℕ → Heap → Ran Got
+unfoldable pub grant : ℕ → Heap → Ran (Option ℕ)
 grant b h = step1 b h or_else seek b

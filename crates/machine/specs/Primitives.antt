@@ -1,19 +1,18 @@
 -- The primitives: one push and one take for stacks, one unlink and one insert for bins, the edits of tiles. Each names every field it writes. Definitions only.
-use Rattle.std.specs.Prelude.{List, [], ◌∷◌, ◌++◌, ℕ, ◌+◌, ◌-◌}
+use Rattle.std.specs.Prelude.{List, [], ◌∷◌, ◌++◌, ℕ, ◌+◌, ◌-◌, Option, Some}
 use Rattle.sizes.specs.Limits.{none64}
 use Rattle.machine.specs.Lists.{hd, lst, tl, pre, post}
 use Rattle.machine.specs.Mixing.{stored}
 use Rattle.machine.specs.Heap.{Tile, tile, Heap, stack, bin, with_tiles, with_stack, with_bin, with_remainder, up_to, edit, top_of, size_of, p_of, next}
 use Rattle.machine.specs.Writes.{Write, size, note, link, fwd, back, key, Ran, ran, does, ◌>>=◌}
 use Rattle.machine.specs.Skips.{skips_in, skips_out}
-use Rattle.machine.specs.declared.{Got.Got, Got.TheVariants.At}
 
 -- ---- stacks: the only place that writes a stack's link
 abbrev pub push : ℕ → ℕ → Heap → Ran (Unit {0})
 push k c h = does (with_stack k (c ∷ stack h k) h) (link c (stored h.edition c (hd none64 (stack h k))) ∷ [])
 
-abbrev pub pop : ℕ → Heap → Ran Got
-pop k h = ran (with_stack k (tl (stack h k)) h) [] (At (hd none64 (stack h k)))
+abbrev pub pop : ℕ → Heap → Ran (Option ℕ)
+pop k h = ran (with_stack k (tl (stack h k)) h) [] (Some (hd none64 (stack h k)))
 
 -- the cache's push and take: a cached chunk has the key in its second word, and 0 there when it is taken (document 02, (viii))
 abbrev pub push_cache : ℕ → ℕ → Heap → Ran (Unit {0})
@@ -21,10 +20,10 @@ push_cache k c h = do
   h ← push k c h
   does h (key c h.key ∷ [])
 
-abbrev pub take_cache : ℕ → Heap → Ran Got
+abbrev pub take_cache : ℕ → Heap → Ran (Option ℕ)
 take_cache k h = do
   h₁ ← pop k h
-  ran h₁ (key (hd none64 (stack h k)) 0 ∷ []) (At (hd none64 (stack h k)))
+  ran h₁ (key (hd none64 (stack h k)) 0 ∷ []) (Some (hd none64 (stack h k)))
 
 -- ---- bins: the last of xs gets c as its forward link, the first of ys as its back link; nothing where there is none
 abbrev pub fwd_to : List ℕ → ℕ → List Write
@@ -108,11 +107,11 @@ cut_at c b h = does (edit c (cut_t b) h) (size c b 1 ∷ size (c + b) (size_of h
 abbrev pub to_top : ℕ → Heap → Ran (Unit {0})
 to_top c h = does (with_tiles (up_to 0 c h.tiles) h) (size c (h.len - c) 1 ∷ [])
 
-abbrev pub cut_top : ℕ → Heap → Ran Got
+abbrev pub cut_top : ℕ → Heap → Ran (Option ℕ)
 cut_top b h =
     ran (with_tiles (h.tiles ++ tile b 1 0 ∷ []) h)
     (size (top_of h) b 1 ∷ size (top_of h + b) (h.len - (top_of h + b)) 1 ∷ [])
-    (At (top_of h))
+    (Some (top_of h))
 
 abbrev pub set_remainder : ℕ → Heap → Ran (Unit {0})
 set_remainder c h = does (with_remainder c h) []

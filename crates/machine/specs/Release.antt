@@ -1,12 +1,11 @@
 -- Release, join, consolidate, and the two jobs emptying and joining (document 02, (vii)), in the documents' words and order. Definitions only.
-use Rattle.std.specs.Prelude.{List, [], ◌∷◌, true, false, ℕ, zero, suc, ◌-◌, eqb, ltb, leb, length}
+use Rattle.std.specs.Prelude.{List, [], ◌∷◌, true, false, ℕ, zero, suc, ◌-◌, eqb, ltb, leb, length, Option}
 use Rattle.sizes.specs.Limits.{none32, most_cached, cache_room, cache_lists, most_fast, consolidate_from, fast_lists, unsorted}
 use Rattle.sizes.specs.Sizes.{cache_of, fast_of}
 use Rattle.machine.specs.Lists.{both}
 use Rattle.machine.specs.Heap.{Heap, stack, cache, fast_at, any_fast?, binned, bin_has, top_of, size_of, p_of, next, before}
 use Rattle.machine.specs.Writes.{Ran, ran, does, giving, more, ◌>>=◌}
 use Rattle.machine.specs.Primitives.{push, pop, push_cache, take_cache, put_first, unlink, swallow, clear_p, to_top, set_remainder}
-use Rattle.machine.specs.declared.Got.{Got}
 
 -- x leaves its bin, and c takes in the chunk after it
 unfoldable pub absorb : ℕ → ℕ → Heap → Ran (Unit {0})
@@ -39,7 +38,7 @@ join c h = elim (eqb (p_of h c) 0) [
 ]
 
 -- stack k, whose chunks are l, from its head: take the chunk out, by t, and do f with it
-unfoldable pub drain : (ℕ → Heap → Ran Got) → (ℕ → Heap → Ran ℕ) → ℕ → List ℕ → Heap → Ran (Unit {0})
+unfoldable pub drain : (ℕ → Heap → Ran (Option ℕ)) → (ℕ → Heap → Ran ℕ) → ℕ → List ℕ → Heap → Ran (Unit {0})
 drain t f k [] h = does h []
 drain t f k (c ∷ l) h = do
   h ← t k h
@@ -47,7 +46,7 @@ drain t f k (c ∷ l) h = do
   drain t f k l h
 
 -- n stacks, from number k on
-unfoldable pub drains : (ℕ → Heap → Ran Got) → (ℕ → Heap → Ran ℕ) → ℕ → ℕ → Heap → Ran (Unit {0})
+unfoldable pub drains : (ℕ → Heap → Ran (Option ℕ)) → (ℕ → Heap → Ran ℕ) → ℕ → ℕ → Heap → Ran (Unit {0})
 drains t f zero k h = does h []
 drains t f (suc n) k h = do
   h ← drain t f k (stack h k) h

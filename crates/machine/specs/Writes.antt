@@ -1,8 +1,7 @@
 -- What a step comes to: the heap after it, the fields it writes in order, its answer. Memory after a step is what its writes make of it. Definitions only.
-use Rattle.std.specs.Prelude.{List, [], ◌∷◌, ◌++◌, Bool, true, ℕ, ◌+◌, ◌/◌, eqb, get_or, set}
+use Rattle.std.specs.Prelude.{List, [], ◌∷◌, ◌++◌, Bool, true, ℕ, ◌+◌, ◌/◌, eqb, get_or, set, Option, Some, None}
 use Rattle.machine.specs.Lists.{both}
 use Rattle.machine.specs.Heap.{Heap}
-use Rattle.machine.specs.declared.{Got.Got, Got.TheVariants.At, Got.TheVariants.Nothing}
 
 infixl 10 ◌>>=◌
 infixl 8 ◌or_else◌
@@ -88,9 +87,9 @@ abbrev pub ◌>>=◌ : {A B : Type 0} → Ran A → (Heap → Ran B) → Ran B
 ◌>>=◌ (ran h ws a) f = more ws (f h)
 
 -- a step of grant that found nothing is followed by the next one
-abbrev pub nothing : Heap → Ran Got
-nothing h = ran h [] Nothing
+abbrev pub nothing : Heap → Ran (Option ℕ)
+nothing h = ran h [] None
 
-abbrev pub ◌or_else◌ : Ran Got → (Heap → Ran Got) → Ran Got
-◌or_else◌ (ran h ws (At c)) f = ran h ws (At c)
-◌or_else◌ (ran h ws Nothing) f = more ws (f h)
+abbrev pub ◌or_else◌ : Ran (Option ℕ) → (Heap → Ran (Option ℕ)) → Ran (Option ℕ)
+◌or_else◌ (ran h ws (Some c)) f = ran h ws (Some c)
+◌or_else◌ (ran h ws None) f = more ws (f h)

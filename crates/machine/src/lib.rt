@@ -4,6 +4,7 @@
 ghost use Rattle.std.specs.Prelude.{◌≡◌};
 ghost use Rattle.machine.specs.Audit.{sound?};
 ghost use Rattle.machine.specs.Calls.{refusal_no, answer_numbers};
+ghost use Rattle.machine.specs.declared.Refusal.TheVariants.{Unsound};
 
 // A list of the heap: cache, fast or bin, and its number.
 #[derive(Clone, Copy)]
@@ -13,10 +14,9 @@ pub enum ListKind {
     Bin(u32),
 }
 
-// What an audit answers: sound, or the first fault and its place; Shape where arena or record has no allowed length.
+// The first fault that an audit finds, and its place; Shape where arena or record has no allowed length.
 #[derive(Clone, Copy)]
-pub enum Audited {
-    Sound,
+pub enum Fault {
     Record,
     Tile(u32),
     List(ListKind),
@@ -35,19 +35,20 @@ pub enum Refusal {
     Edition,
 }
 
-// What open, grant, release, resize, emptying and joining answer. A grant gives a mem offset and the usable bytes from there on.
+// A call on an unsound heap is refused as such, whatever the fault.
+impl From<Fault> for Refusal {
+    ghost from_gives = { λ _ x. x ≡ Unsound };
+
+    fn from(_fault: Fault) -> Refusal {
+        Refusal::Unsound
+    }
+}
+
+// What open, grant, release, resize, emptying and joining answer where they are not refused. A grant gives a mem offset and the usable bytes from there on.
 #[derive(Clone, Copy)]
 pub enum Answer {
     Done,
     Granted { mem: u32, usable: u32 },
-    Refused(Refusal),
-}
-
-// What a step of grant finds: a chunk, or nothing.
-#[derive(Clone, Copy)]
-pub enum Got {
-    At(u32),
-    Nothing,
 }
 
 // What became of one unsorted chunk in step 5, or that there was none.
@@ -76,17 +77,10 @@ pub struct HeapFault {
     pub number: u32,
 }
 
-pub fn is_sound(x: Audited) -> bool
+pub fn is_sound(x: Result<(), Fault>) -> bool
     ensures { result ≡ sound? x }
 {
-    match x {
-        Audited::Sound => true,
-        Audited::Record => false,
-        Audited::Tile(_) => false,
-        Audited::List(_) => false,
-        Audited::Flag(_) => false,
-        Audited::Shape => false,
-    }
+    x.is_ok()
 }
 
 fn refusal_no(x: Refusal) -> u32
@@ -103,22 +97,18 @@ fn refusal_no(x: Refusal) -> u32
 }
 
 // The numbers of an answer, as document 01 gives them.
-pub fn answer_numbers(x: Answer) -> HeapAnswer
+pub fn answer_numbers(x: Result<Answer, Refusal>) -> HeapAnswer
     ensures { result ≡ answer_numbers x }
 {
     match x {
-        Answer::Done => HeapAnswer {
+        Ok(Answer::Done) => HeapAnswer {
             no: 0,
             mem: 0,
             usable: 0,
         },
-        Answer::Granted { mem, usable } => HeapAnswer {
-            no: 0,
-            mem: mem,
-            usable: usable,
-        },
-        Answer::Refused(y) => HeapAnswer {
-            no: refusal_no(y),
+        Ok(Answer::Granted { mem, usable }) => HeapAnswer { no: 0, mem, usable },
+        Err(refusal) => HeapAnswer {
+            no: refusal_no(refusal),
             mem: 0,
             usable: 0,
         },

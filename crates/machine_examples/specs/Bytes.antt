@@ -9,8 +9,7 @@ use Rattle.machine.specs.Grant.{step1, move_fast, step2, take_last, move_lasts, 
 use Rattle.machine.specs.Resize.{next_p, finish, resize}
 use Rattle.machine.specs.View.{list_at, tiles_of, stacks_of, bins_of}
 use Rattle.machine.specs.Audit.{tile_fault, good_from, list_fault, flag_fault, audit_by}
-use Rattle.machine.specs.Calls.{After, after, answer_numbers, audit_call, closed_record, open_call, grant_call, release_call, job_call, emptying_call, joining_call, joined_after, resize_call}
-use Rattle.machine.specs.declared.{Answer.Answer}
+use Rattle.machine.specs.Calls.{After, after, answer_numbers, audit_call, closed_record, open_call, grant_call, release_call, job_call, emptying_call, joining_call, joined_after, resize_call, Answered}
 use Rattle.machine.proofs.Script.{Line, G, R, S, E, J, Z, same?}
 
 -- ---- scripts: what each line prints behind its letter, and the bytes left
@@ -25,7 +24,7 @@ example_call E a r = emptying_call a r
 example_call J a r = joining_call a r
 example_call (Z m n) a r = resize_call a r m n
 
-abbrev pub line : Answer → List ℕ → List ℕ
+abbrev pub line : Answered → List ℕ → List ℕ
 line x r = (answer_numbers x).no ∷ (answer_numbers x).mem ∷ (answer_numbers x).usable ∷ number 4 r 4 ∷ []
 
 abbrev pub print : List ℕ → Printed → Printed

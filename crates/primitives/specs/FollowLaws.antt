@@ -1,10 +1,9 @@
 -- Steps that were followed one after the other were followed as one; what the record says of the heap. Assumes nothing.
-use Rattle.std.specs.Prelude.{◌≡◌, refl, List, [], ℕ, get_or}
+use Rattle.std.specs.Prelude.{◌≡◌, refl, List, [], ℕ, get_or, Option, Some, None}
 use Rattle.std.proofs.Common.{sym, ap, ◌∙◌, subst, arith}
 use Rattle.sizes.specs.Layout.{length_word, top_word}
 use Rattle.machine.specs.Heap.{Heap, top_of, record_of}
 use Rattle.machine.specs.Writes.{Write, Ran, ran, heap_of, writes, apply, giving, more, ◌>>=◌, ◌or_else◌}
-use Rattle.machine.specs.declared.{Got.Got, Got.TheVariants.At, Got.TheVariants.Nothing}
 use Rattle.sound.specs.Relation.{Shape, Mem, Good}
 use Rattle.sound.specs.Frames.{apply-append}
 use Rattle.sound.specs.Ends.{Ends}
@@ -39,17 +38,17 @@ pub gave-giving : {A B : Type 0} (s : Ran A) (a : A) (b : B) {w v q : List ℕ} 
 gave-giving (ran h ws x) a b m = record { says = refl; bytes = m.bytes; rec = m.rec }
 
 -- a chunk is not nothing
-pub got-absurd : {B : Type 0} {c : ℕ} → ◌≡◌ {A = Got} (At c) Nothing → B
+pub got-absurd : {B : Type 0} {c : ℕ} → ◌≡◌ {A = Option ℕ} (Some c) None → B
 got-absurd e = let z : ◌≡◌ {A = ℕ} 0 1 = cc in absurd (omega arith)
 
 -- a step of grant that found a chunk; one that found none, and the next
-pub gave-took : (s : Ran Got) (f : Heap → Ran Got) (c : ℕ) {w v q : List ℕ} → Gave Got s (At c) w v q → Gave Got (s or_else f) (At c) w v q
-gave-took (ran h ws (At d)) f c m = m
-gave-took (ran h ws Nothing) f c m = got-absurd (sym m.says)
+pub gave-took : (s : Ran (Option ℕ)) (f : Heap → Ran (Option ℕ)) (c : ℕ) {w v q : List ℕ} → Gave (Option ℕ) s (Some c) w v q → Gave (Option ℕ) (s or_else f) (Some c) w v q
+gave-took (ran h ws (Some d)) f c m = m
+gave-took (ran h ws None) f c m = got-absurd (sym m.says)
 
-pub gave-next : (s : Ran Got) (f : Heap → Ran Got) (g : Got) {w v q v' q' : List ℕ} → Gave Got s Nothing w v q → Gave Got (f (heap_of s)) g v v' q' → Gave Got (s or_else f) g w v' q'
-gave-next (ran h ws Nothing) f g m n = gave_then (ran h ws Nothing) f Nothing g m n
-gave-next (ran h ws (At d)) f g m n = got-absurd m.says
+pub gave-next : (s : Ran (Option ℕ)) (f : Heap → Ran (Option ℕ)) (g : Option ℕ) {w v q v' q' : List ℕ} → Gave (Option ℕ) s None w v q → Gave (Option ℕ) (f (heap_of s)) g v v' q' → Gave (Option ℕ) (s or_else f) g w v' q'
+gave-next (ran h ws None) f g m n = gave_then (ran h ws None) f None g m n
+gave-next (ran h ws (Some d)) f g m n = got-absurd m.says
 
 -- what a step leaves is the words and the record of its heap
 pub gave-ok : {A : Type 0} (s : Ran A) (g : A) {w v q : List ℕ} → Shape (heap_of s) → Mem (heap_of s) (apply (writes s) w) → Gave A s g w v q → Ok (heap_of s) v q

@@ -1,5 +1,5 @@
 -- Push and take of a cache or fast list, as the code does them, follow the machine: the link and the head that the record has are the stack's. Assumes nothing.
-use Rattle.std.specs.Prelude.{◌≡◌, refl, true, List, ◌∷◌, ℕ, ◌+◌, ◌-◌, ◌≤◌, ◌<◌, ◌^◌, length, get_or, set}
+use Rattle.std.specs.Prelude.{◌≡◌, refl, true, List, ◌∷◌, ℕ, ◌+◌, ◌-◌, ◌≤◌, ◌<◌, ◌^◌, length, get_or, set, Option, Some}
 use Rattle.std.proofs.Common.{sym, ap, ◌∙◌, arith}
 use Rattle.le.specs.Arena.{arena_words}
 use Rattle.sizes.specs.Limits.{none64, none32}
@@ -10,7 +10,6 @@ use Rattle.machine.specs.Writes.{link, key, put}
 use Rattle.machine.specs.Mixing.{stored}
 use Rattle.machine.specs.Primitives.{push, pop, push_cache, take_cache}
 use Rattle.machine.specs.View.{up, key_in, edition_in}
-use Rattle.machine.specs.declared.{Got.Got, Got.TheVariants.At}
 use Rattle.sound.specs.Relation.{Loose}
 use Rattle.chunk_fields.specs.Links.{down}
 use Rattle.sound.specs.RecordOf.{record-length, record-words, record-cache_head, record-cache_count, record-fast_head, record-with_cache, record-with_fast}
@@ -55,8 +54,8 @@ module _ (h : Heap) (w r : List ℕ) (o : Ok h w r) where
   taken-narrow : (k c x : ℕ) → some? (stack h k) ≡ true → c ≡ hd none32 (stack h k) → x ≡ stored h.edition c (get_or w (fwd_word c) 0) → down x < 2 ^ 32
   taken-narrow k c x e q f = rw (f, q) (ok-head k e).narrow
 
-  taken-says : (k c : ℕ) → some? (stack h k) ≡ true → c ≡ hd none32 (stack h k) → ◌≡◌ {A = Got} (At (hd none64 (stack h k))) (At c)
-  taken-says k c e q = ap (λ (c : ℕ). At c) ((ok-head k e).same ∙ sym q)
+  taken-says : (k c : ℕ) → some? (stack h k) ≡ true → c ≡ hd none32 (stack h k) → ◌≡◌ {A = Option ℕ} (Some (hd none64 (stack h k))) (Some c)
+  taken-says k c e q = ap (λ (c : ℕ). (Some c)) ((ok-head k e).same ∙ sym q)
 
   -- ---- cache lists
   pub push-cache-gave : (k c x y d : ℕ) (u v q : List ℕ) → k < 64 → x ≡ up (get_or r (cache_head k) 0)
@@ -80,7 +79,7 @@ module _ (h : Heap) (w r : List ℕ) (o : Ok h w r) where
   cache-some k hk e = omega (arith, ok-cache_count k hk, (ok-head k e).more)
 
   pub take-cache-gave : (k c x y d : ℕ) (v q : List ℕ) → k < 64 → some? (stack h k) ≡ true → c ≡ get_or r (cache_head k) 0 → d ≡ edition_in r → x ≡ stored d c (get_or w (fwd_word c) 0) → y ≡ down x
-      → q ≡ set (set r (cache_head k) y) (cache_count k) (get_or r (cache_count k) 0 - 1) → v ≡ put (key c 0) w → Gave Got (take_cache k h) (At c) w v q
+      → q ≡ set (set r (cache_head k) y) (cache_count k) (get_or r (cache_count k) 0 - 1) → v ≡ put (key c 0) w → Gave (Option ℕ) (take_cache k h) (Some c) w v q
   take-cache-gave k c x y d v q hk e z ed ex ey f b =
       let l = tl (stack h k) in
       let n : get_or r (cache_count k) 0 - 1 ≡ length l = omega (arith, ok-cache_count k hk, (ok-head k e).more) in
@@ -108,7 +107,7 @@ module _ (h : Heap) (w r : List ℕ) (o : Ok h w r) where
   fast-narrow k x d hk e g f = taken-narrow (fast_at k) (get_or r (fast_head k) 0) x e (ok-fast_head k hk) (link-by d (get_or r (fast_head k) 0) x g f)
 
   pub take-fast-gave : (k c x y d : ℕ) (q : List ℕ) → k < 10 → some? (stack h (fast_at k)) ≡ true → c ≡ get_or r (fast_head k) 0 → d ≡ edition_in r → x ≡ stored d c (get_or w (fwd_word c) 0) → y ≡ down x
-      → q ≡ set r (fast_head k) y → Gave Got (pop (fast_at k) h) (At c) w w q
+      → q ≡ set r (fast_head k) y → Gave (Option ℕ) (pop (fast_at k) h) (Some c) w w q
   take-fast-gave k c x y d q hk e z ed ex ey f =
       let l = tl (stack h (fast_at k)) in
       let g : c ≡ hd none32 (stack h (fast_at k)) = z ∙ ok-fast_head k hk in

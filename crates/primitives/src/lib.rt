@@ -1,7 +1,7 @@
 // The machine's primitives on lists and flags as code, on the arena's bytes and the record's words.
 #![tactic(auto)]
 
-ghost use Rattle.std.specs.Prelude.{◌≡◌, true, List, ℕ, ◌+◌, ◌%◌, ◌≤◌, ◌<◌, ◌^◌, length, get_or, set};
+ghost use Rattle.std.specs.Prelude.{◌≡◌, true, List, ℕ, ◌+◌, ◌%◌, ◌≤◌, ◌<◌, ◌^◌, length, get_or, Option, Some};
 ghost use Rattle.le.specs.Arena.{arena_words};
 ghost use Rattle.machine.specs.Lists.{some?, cnt};
 ghost use Rattle.machine.specs.Heap.{Heap, stack, fast_at, bin, size_of};
@@ -9,7 +9,6 @@ ghost use Rattle.machine.specs.Writes.{size, note, put, apply};
 ghost use Rattle.machine.specs.Skips.{ring, skips_in, skips_out};
 ghost use Rattle.machine.specs.Primitives.{push, pop, push_cache, take_cache, link_in, put_first, unlink};
 ghost use Rattle.machine.specs.View.{size_at};
-ghost use Rattle.machine.specs.declared.{Got.Got, Got.TheVariants.At};
 ghost use Rattle.sizes.specs.Sizes.{cache_of};
 ghost use Rattle.sizes.specs.Layout.{cache_count, bin_first, bin_last};
 ghost use Rattle.sound.specs.Relation.{Loose};
@@ -31,6 +30,7 @@ use sizes::{
 use skip_links::{put_skips, write_ring};
 
 // c goes on cache list k, which has room, with the key in its second word.
+// Kept: apart from push_fast, and take_cache from take_fast, since the cache alone counts its chunks and marks them (d): `push_cache`, `push` are two definitions.
 pub fn push_cache(a: &mut [u8], r: &mut [u32], k: usize, c: Chunk)
     requires { (k < 64) × Has (λ h. Loose h c.0 × (length (stack h k) < 7)) (arena_words a.old) r.old }
     ensures { Does (Unit {0}) (λ h. Loose h c.0 × (length (stack h k) < 7)) (push_cache k c.0) (arena_words a.old) r.old tt (arena_words a.new) r.new }
@@ -58,7 +58,7 @@ pub fn cache_takes(r: &[u32], z: u64) -> bool
 // The head of cache list k, which has one, is taken, with 0 where its key was.
 pub fn take_cache(a: &mut [u8], r: &mut [u32], k: usize) -> Chunk
     requires { (k < 64) × Has (λ h. some? (stack h k) ≡ true) (arena_words a.old) r.old }
-    ensures { Does Got (λ h. some? (stack h k) ≡ true) (take_cache k) (arena_words a.old) r.old (At result.0) (arena_words a.new) r.new }
+    ensures { Does (Option ℕ) (λ h. some? (stack h k) ≡ true) (take_cache k) (arena_words a.old) r.old (Some result.0) (arena_words a.new) r.new }
 {
     let c = Chunk(r[CACHE_HEADS + k] as u64);
     let n = r[CACHE_COUNTS + k];
@@ -82,7 +82,7 @@ pub fn push_fast(a: &mut [u8], r: &mut [u32], k: usize, c: Chunk)
 
 pub fn take_fast(a: &[u8], r: &mut [u32], k: usize) -> Chunk
     requires { (k < 10) × Has (λ h. some? (stack h (fast_at k)) ≡ true) (arena_words a.now) r.old }
-    ensures { Does Got (λ h. some? (stack h (fast_at k)) ≡ true) (pop (fast_at k)) (arena_words a.now) r.old (At result.0) (arena_words a.now) r.new }
+    ensures { Does (Option ℕ) (λ h. some? (stack h (fast_at k)) ≡ true) (pop (fast_at k)) (arena_words a.now) r.old (Some result.0) (arena_words a.now) r.new }
 {
     let c = Chunk(r[FAST_HEADS + k] as u64);
     let d = edition_in(r);
@@ -91,6 +91,7 @@ pub fn take_fast(a: &[u8], r: &mut [u32], k: usize) -> Chunk
 }
 
 // The forward link of p, or the first of bin j where p is none, becomes x.
+// Kept: apart from link_back, since a direction told as a value would be asked for the word of the record and for the field (d).
 fn link_fwd(a: &mut [u8], r: &mut [u32], j: usize, p: Link, x: Link)
     requires { (j ≤ 126) × (length r.old ≡ 396) × Leads (length a.old) p.0 × (down x.0 < 2 ^ 32) }
     ensures { (arena_words a.new ≡ link_fwd (arena_words a.old) p.0 x.0) × (r.new ≡ link_end r.old (bin_first j) p.0 x.0) }

@@ -6,16 +6,14 @@ ghost use Rattle.le.specs.Number.{words, bytes};
 ghost use Rattle.machine.specs.Calls.{words_of};
 ghost use Rattle.record_words.specs.CacheOnly.{CacheOnly, Changes};
 
-use sizes::{CACHE_COUNTS, CACHE_HEADS, RECORD_WORDS};
+use sizes::{CACHE_COUNTS, CACHE_HEADS};
 
 pub fn read_words(b: &[u8], r: &mut [u32])
     requires { (length b.now ≡ 1584) × (length r.old ≡ 396) }
     ensures { r.new ≡ words 4 396 b.now }
 {
-    let mut i: usize = 0;
-    while i < RECORD_WORDS {
-        r[i] = le::read4(b, 4 * i);
-        i += 1;
+    for (i, w) in r.iter_mut().enumerate() {
+        *w = le::read(b, 4 * i);
     }
 }
 
@@ -23,14 +21,13 @@ pub fn write_words(b: &mut [u8], r: &[u32])
     requires { (length b.old ≡ 1584) × (length r.now ≡ 396) }
     ensures { b.new ≡ bytes 4 r.now }
 {
-    let mut i: usize = 0;
-    while i < RECORD_WORDS {
-        le::write4(b, 4 * i, r[i]);
-        i += 1;
+    for (i, w) in r.iter().enumerate() {
+        le::write(b, 4 * i, *w);
     }
 }
 
 // Which of the record's words a step changed: those of one cache list, or any.
+// Kept: an `Option<usize>` would be no plainer, since its `None` reads as "nothing changed", where `Any` means that each word may have.
 #[derive(Clone, Copy)]
 pub enum Changed {
     CacheList(usize),
@@ -44,8 +41,8 @@ fn put_cache(control: &mut [u8], r: &[u32], k: usize)
 {
     let head = CACHE_HEADS + k;
     let count = CACHE_COUNTS + k;
-    le::write4(control, 4 * head, r[head]);
-    le::write4(control, 4 * count, r[count]);
+    le::write(control, 4 * head, r[head]);
+    le::write(control, 4 * count, r[count]);
 }
 
 // The words that a step changed go back.

@@ -1,5 +1,5 @@
 -- What comes of c, a loose chunk, when the cache is tried: c goes on its list, or the cache has no room for it. Definitions only.
-use Rattle.std.specs.Prelude.{◌≡◌, List, ℕ, ◌<◌}
+use Rattle.std.specs.Prelude.{◌≡◌, List, ℕ, ◌<◌, Option, Some, None}
 use Rattle.sizes.specs.Limits.{cache_lists}
 use Rattle.machine.specs.Heap.{Heap}
 use Rattle.machine.specs.Writes.{giving}
@@ -7,8 +7,6 @@ use Rattle.machine.specs.Release.{release_past, release}
 use Rattle.sound.specs.Relation.{Loose}
 use Rattle.record_words.specs.CacheOnly.{CacheOnly}
 use Rattle.primitives.specs.Follow.{Ok, Does}
-use Rattle.release.specs.declared.Offered.{Offered}
-use Rattle.release.specs.declared.Offered.TheVariants.{On, NoRoom}
 
 -- cache list k has c first now: all that release does
 pub record OnCache (c k : ℕ) (w r v q : List ℕ) : Type 0 where
@@ -22,6 +20,7 @@ pub record Passed (c : ℕ) (w r v q : List ℕ) : Type 0 where
   pub rec : q ≡ r
   pub past : (h : Heap) → Ok h w r → Loose h c → release c h ≡ release_past c h
 
-abbrev pub Comes : ℕ → Offered → List ℕ → List ℕ → List ℕ → List ℕ → Type 0
-Comes c (On k) w r v q = OnCache c k w r v q
-Comes c NoRoom w r v q = Passed c w r v q
+-- the list that c went on, if any
+abbrev pub Comes : ℕ → Option ℕ → List ℕ → List ℕ → List ℕ → List ℕ → Type 0
+Comes c (Some k) w r v q = OnCache c k w r v q
+Comes c None w r v q = Passed c w r v q

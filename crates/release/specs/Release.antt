@@ -1,5 +1,5 @@
 -- Release as the code does it follows the machine: one lemma for each way. Assumes nothing.
-use Rattle.std.specs.Prelude.{◌≡◌, refl, Bool, true, false, List, ◌∷◌, ℕ, ◌≤◌, ◌<◌, length, get_or, leb}
+use Rattle.std.specs.Prelude.{◌≡◌, refl, Bool, true, false, List, ◌∷◌, ℕ, ◌≤◌, ◌<◌, length, get_or, leb, Option, Some, None}
 use Rattle.std.proofs.Common.{sym, ap, ◌∙◌, subst, arith, le-leb}
 use Rattle.std.proofs.lemmas.Bool.{lt-leb}
 use Rattle.sizes.specs.Limits.{most_fast, consolidate_from}
@@ -24,8 +24,6 @@ use Rattle.primitives.specs.CacheList.{cache-only, takes-is, takes-room}
 use Rattle.release_join.specs.Reads.{loose-reads}
 use Rattle.consolidate.specs.AnyFast.{Told}
 use Rattle.release.specs.Offers.{OnCache, Passed, Comes}
-use Rattle.release.specs.declared.Offered.{Offered}
-use Rattle.release.specs.declared.Offered.TheVariants.{On, NoRoom}
 
 -- ---- the machine's steps by their tests, at a chunk of size z
 past-fast : (c z : ℕ) (h : Heap) → size_of h c ≡ z → z ≤ 128 → release_past c h ≡ giving 0 (push (fast_at (fast_of z)) c h)
@@ -133,15 +131,15 @@ module _ (h : Heap) (w r : List ℕ) (c z : ℕ) (o : Ok h w r) (lo : Loose h c)
     passed_is n = release-past c z h size_is (takes-is h w r z o t et ∙ n)
 
 -- ---- the cache was tried: c is on a list, or goes past
-pub on-gave : (c : ℕ) (x : Offered) (k : ℕ) (w r v q : List ℕ) → Comes c x w r v q → x ≡ On k
+pub on-gave : (c : ℕ) (x : Option ℕ) (k : ℕ) (w r v q : List ℕ) → Comes c x w r v q → x ≡ Some k
     → Does (Unit {0}) (λ h. Good h × Loose h c) (λ h. giving tt (release c h)) w r tt v q × Changes (CacheList k) r q
 on-gave c x k w r v q m e =
-    let O : OnCache c k w r v q = subst (λ (x : Offered). Comes c x w r v q) e m in
+    let O : OnCache c k w r v q = subst (λ (x : Option ℕ). Comes c x w r v q) e m in
     (record { does = λ h o g. O.does.does h o g.1 }, (O.list, O.only))
 
-module _ (c : ℕ) (x : Offered) (w r v q : List ℕ) (m : Comes c x w r v q) (e : x ≡ NoRoom) where
+module _ (c : ℕ) (x : Option ℕ) (w r v q : List ℕ) (m : Comes c x w r v q) (e : x ≡ None) where
   passed : Passed c w r v q
-  passed = subst (λ (x : Offered). Comes c x w r v q) e m
+  passed = subst (λ (x : Option ℕ). Comes c x w r v q) e m
 
   pub past-has : Has (λ h. Good h × Loose h c) w r → Has (λ h. Good h × Loose h c) v q
   past-has H =

@@ -17,14 +17,8 @@ use record_words::Changed;
 use release_join::join;
 use sizes::{CONSOLIDATE_FROM, Chunk, MOST_FAST};
 
-// What came of a chunk when the cache was tried: it is on that list, or there was no room and nothing was done.
-#[derive(Clone, Copy)]
-pub enum Offered {
-    On(usize),
-    NoRoom,
-}
-
 // c, which no list has, goes past the cache. Answers the size that the joining yields, 0 where none is joined.
+// Kept: 0 and no Option, as the definition `release_past` answers.
 pub fn release_past(a: &mut [u8], r: &mut [u32], c: Chunk) -> u64
     requires { Has (λ h. Good h × Loose h c.0) (arena_words a.old) r.old }
     ensures { Does ℕ (λ h. Good h × Loose h c.0) (release_past c.0) (arena_words a.old) r.old result (arena_words a.new) r.new }
@@ -41,8 +35,8 @@ pub fn release_past(a: &mut [u8], r: &mut [u32], c: Chunk) -> u64
     s
 }
 
-// c, which no list has, goes on the cache list of its size if that has room.
-fn to_cache(a: &mut [u8], r: &mut [u32], c: Chunk) -> Offered
+// c, which no list has, goes on the cache list of its size if that has room. Answers which list that is; none: there was no room and nothing was done.
+fn to_cache(a: &mut [u8], r: &mut [u32], c: Chunk) -> Option<usize>
     requires { Has (λ h. Loose h c.0) (arena_words a.old) r.old }
     ensures { Comes c.0 result (arena_words a.old) r.old (arena_words a.new) r.new }
 {
@@ -50,9 +44,9 @@ fn to_cache(a: &mut [u8], r: &mut [u32], c: Chunk) -> Offered
     if cache_takes(r, z) {
         let k = sizes::cache_list(z);
         push_cache(a, r, k, c);
-        return Offered::On(k);
+        return Some(k);
     }
-    Offered::NoRoom
+    None
 }
 
 // c, which no list has, is released. Answers which of the record's words that changed.
@@ -61,8 +55,7 @@ pub fn release(a: &mut [u8], r: &mut [u32], c: Chunk) -> Changed
     ensures does { Does (Unit {0}) (λ h. Good h × Loose h c.0) (λ h. giving tt (release c.0 h)) (arena_words a.old) r.old tt (arena_words a.new) r.new }
     ensures changes { Changes result r.old r.new }
 {
-    let offered = to_cache(a, r, c);
-    if let Offered::On(k) = offered {
+    if let Some(k) = to_cache(a, r, c) {
         return Changed::CacheList(k);
     }
     release_past(a, r, c);

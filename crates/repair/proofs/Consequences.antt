@@ -1,6 +1,6 @@
 -- What follows from a repair of bytes that is not refused, by the names that reviewers ask for: what it leaves passes the audit, a second repair changes nothing, a held chunk is a
 -- live block of its size with every usable byte, and a chunk that a list reached is free. Assumes nothing.
-use Rattle.std.specs.Prelude.{◌≡◌, refl, List, Bool, true, false, ℕ, ◌*◌, ◌/◌, ◌%◌, ◌^◌, ◌≤◌, ◌<◌, length, get_or}
+use Rattle.std.specs.Prelude.{◌≡◌, refl, List, Bool, true, false, ℕ, ◌*◌, ◌/◌, ◌%◌, ◌^◌, ◌≤◌, ◌<◌, length, get_or, Ok}
 use Rattle.std.proofs.Common.{sym, ap, ◌∙◌, subst, arith}
 use Rattle.le.specs.NumberLaws.{number_small}
 use Rattle.le.specs.WordsLaws.{get_d_words}
@@ -28,7 +28,6 @@ use Rattle.calls_consequences.specs.Consequences.{clash}
 use Rattle.calls_consequences.specs.Left.{left-heap, left-stays, lent-shape}
 use Rattle.audit_reached.specs.Reached.{tiled?}
 use Rattle.audit_reached.specs.Tiled.{Tiled, tiled-good}
-use Rattle.repair.specs.declared.Repaired.TheVariants as P
 use Rattle.repair.specs.Repair.{free?, repair}
 use Rattle.repair.specs.RepairCall.{after_repair, repaired, repair_by, repair_call}
 use Rattle.repair.proofs.MendedHeap.{repair-heap, repair-ends}
@@ -37,12 +36,12 @@ use Rattle.repair.proofs.Ways.{left_is, by-sound, repair-cases}
 use Rattle.repair.proofs.Held.{In, held_kept, free-freed}
 
 -- a sound heap is left as it is
-pub sound-left : (a r : List ℕ) → Lent a r → SoundIn a r → repair_call a r ≡ after_repair a r P.Done
+pub sound-left : (a r : List ℕ) → Lent a r → SoundIn a r → repair_call a r ≡ after_repair a r (Ok tt)
 sound-left a r L S = sym (by-sound newest a r (words_of r) (audit_of (arena_words a) (words_of r)) (lent-shape a r L).1 refl refl S)
 
 -- what a repair by the rules of version v leaves of any other whose record and tiles are good
 abbrev pub mended_by : ℕ → List ℕ → List ℕ → After
-mended_by v a r = left a (heap_of (repair (free? v (arena_words a) (words_of r)) (heap_in a r))) (writes (repair (free? v (arena_words a) (words_of r)) (heap_in a r))) Done
+mended_by v a r = left a (heap_of (repair (free? v (arena_words a) (words_of r)) (heap_in a r))) (writes (repair (free? v (arena_words a) (words_of r)) (heap_in a r))) (Ok Done)
 
 -- ---- by the rules of version v the audit finds no fault of the record or of a tile
 module _ (v : ℕ) (a r : List ℕ) (L : Lent a r) (t : tiled? (audit_by v (arena_words a) (words_of r)) ≡ true) where
@@ -68,23 +67,23 @@ module _ (v : ℕ) (a r : List ℕ) (L : Lent a r) (t : tiled? (audit_by v (aren
       record { mem = E.mem; now = record { good = E.now; low = omega (arith, ap (λ (h : Heap). h.remainder) (repair-heap f (heap_in a r))) } }
 
   -- that is what the call leaves
-  pub repair-mends : sound? (audit_by v (arena_words a) (words_of r)) ≡ false → repair_by v a r ≡ after_repair (arena_left (mended_by v a r)) (record_left (mended_by v a r)) P.Done
+  pub repair-mends : sound? (audit_by v (arena_words a) (words_of r)) ≡ false → repair_by v a r ≡ after_repair (arena_left (mended_by v a r)) (record_left (mended_by v a r)) (Ok tt)
   unfolding repair_by
   repair-mends u = rw ((lent-shape a r L).1, repair_by) (rw (u, repaired) (rw t)) ∙ left_is a s
 
   -- what it leaves passes the audit, and so later calls go on under demand 2
   pub repair-passes : StaysSound (mended_by v a r)
-  repair-passes = left-stays a r s Done L ends
+  repair-passes = left-stays a r s (Ok Done) L ends
 
   -- a second repair changes nothing
   pub repair-twice : repair_call (arena_left (mended_by v a r)) (record_left (mended_by v a r))
-      ≡ after_repair (arena_left (mended_by v a r)) (record_left (mended_by v a r)) P.Done
+      ≡ after_repair (arena_left (mended_by v a r)) (record_left (mended_by v a r)) (Ok tt)
   repair-twice = sound-left _ _ repair-passes.lent repair-passes.sound
 
   -- a chunk that a list reached lies in one free chunk, or in the top
   pub reached-freed : (c : ℕ) → 1 ≤ cnt c (starts (heap_in a r)) → f c ≡ true → In (heap_left (mended_by v a r)) c (size_of (heap_in a r) c)
   reached-freed c i e =
-      subst (λ (g : Heap). In g c (size_of (heap_in a r) c)) (sym (left-heap a r s Done L ends ∙ repair-heap f (heap_in a r)))
+      subst (λ (g : Heap). In g c (size_of (heap_in a r) c)) (sym (left-heap a r s (Ok Done) L ends ∙ repair-heap f (heap_in a r)))
       (free-freed f (heap_in a r) c (view-tiles v (arena_words a) (words_of r) good small halves) i e)
 
   -- every other chunk but the top is held: a live block of its size, with all its usable bytes
@@ -100,8 +99,8 @@ module _ (v : ℕ) (a r : List ℕ) (L : Lent a r) (t : tiled? (audit_by v (aren
       let n : g.len ≡ 8 * length w = ap (λ (h : Heap). h.len) (repair-heap f (heap_in a r)) in
       let b : size_of g c % 16 ≡ 0 = size-16 g c G.shape m in
       record {
-        live = subst (λ (g : Heap). live? g c ≡ true) (sym (left-heap a r s Done L ends)) k.0;
-        size = ap (λ (g : Heap). size_of g c) (left-heap a r s Done L ends) ∙ k.1;
+        live = subst (λ (g : Heap). live? g c ≡ true) (sym (left-heap a r s (Ok Done) L ends)) k.0;
+        size = ap (λ (g : Heap). size_of g c) (left-heap a r s (Ok Done) L ends) ∙ k.1;
         bytes = λ x l u.
             let in? : x / 8 < length w = omega (arith, chunk-most g G c m, top-most g G, k.1, n, b, st.even) in
             byte-same (apply (writes s) w) w x x refl (omega (arith, apply-length (writes s) w)) in?
@@ -110,15 +109,15 @@ module _ (v : ℕ) (a r : List ℕ) (L : Lent a r) (t : tiled? (audit_by v (aren
       }
 
 -- ---- any bytes: what is answered with 0 passes the audit
-pub repaired-passes : (a r b q : List ℕ) → Lent a r → repair_call a r ≡ after_repair b q P.Done → Lent b q × SoundIn b q
+pub repaired-passes : (a r b q : List ℕ) → Lent a r → repair_call a r ≡ after_repair b q (Ok tt) → Lent b q × SoundIn b q
 repaired-passes a r b q L =
-    repair-cases (λ y. y ≡ after_repair b q P.Done → Lent b q × SoundIn b q) newest a r
+    repair-cases (λ y. y ≡ after_repair b q (Ok tt) → Lent b q × SoundIn b q) newest a r
     (λ s e. clash (cc))
     (λ s g e. let k : a ≡ b = cc in let l : r ≡ q = cc in rw (← k, ← l) (L, g))
     (λ s t e. clash (cc))
     (λ s t e.
     let k = repair-passes newest a r L t in
-    let m : after_repair (arena_left (mended_by newest a r)) (record_left (mended_by newest a r)) P.Done ≡ after_repair b q P.Done =
+    let m : after_repair (arena_left (mended_by newest a r)) (record_left (mended_by newest a r)) (Ok tt) ≡ after_repair b q (Ok tt) =
     sym (left_is a (repair (free? newest (arena_words a) (words_of r)) (heap_in a r))) ∙ e in
     let b' : arena_left (mended_by newest a r) ≡ b = cc in
     let q' : record_left (mended_by newest a r) ≡ q = cc in

@@ -1,6 +1,6 @@
 -- A heap whose only fault is a count, a last or a skip link loses no free chunk: each of its lists is reached whole. The walk asks for heads, links, sizes, back links and keys, and for
 -- none of these. Assumes nothing.
-use Rattle.std.specs.Prelude.{◌≡◌, Bool, ℕ, zero, suc, ◌+◌, ◌*◌, ◌≤◌, ◌<◌, eqb, ltb, length, get_or}
+use Rattle.std.specs.Prelude.{◌≡◌, Bool, ℕ, zero, suc, ◌+◌, ◌*◌, ◌≤◌, ◌<◌, eqb, ltb, length, get_or, Ok}
 use Rattle.std.proofs.Math.Path.{refl, ap}
 use Rattle.std.proofs.Common.{sym, ◌∙◌, ⊎_elim, not-suc-le-zero, arith, eq-eqb, ne_eqb, lt-ltb}
 use mathlib.Core.List.{List, [], ◌∷◌}
@@ -12,7 +12,6 @@ use Rattle.machine.specs.Count.{eq?}
 use Rattle.machine.specs.Heap.{Heap, total, bin_from}
 use Rattle.machine.specs.View.{size_at, kind_at, head_word, links_by, list_at, tiles_of, key_in, edition_in, view, up, chunks_by}
 use Rattle.machine.specs.Audit.{key_ok, may_stand, record_fault, tile_fault, list_fault, audit_by, lists}
-use Rattle.machine.specs.declared.Audited.TheVariants as A
 use Rattle.machine.specs.declared.ListKind.{ListKind}
 use Rattle.machine.specs.declared.ListKind.TheVariants.{Cache, Fast, Bin}
 use Rattle.sound.specs.Relation.{SoundBy}
@@ -79,7 +78,7 @@ bin-below i x (l ∷ ls) h = ⊎_elim
     (eq? (cnt x l) 0)
 
 -- ---- the lists of a sound heap are found good
-lists-found : (v : ℕ) (h : Heap) (w q : List ℕ) → SoundBy v h w q → list_fault v w q 0 (starts_of w) (lists_of w q) ≡ A.Sound
+lists-found : (v : ℕ) (h : Heap) (w q : List ℕ) → SoundBy v h w q → list_fault v w q 0 (starts_of w) (lists_of w q) ≡ Ok tt
 unfolding audit_by
 lists-found v h w q o =
     let e₁ = first-sound (record_fault w q) _ (audit-complete-by v h w q o) in

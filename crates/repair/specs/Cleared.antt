@@ -1,8 +1,9 @@
 -- Words of the record that become one value, and the record that has no list: a heap's record by its words, which are none, 0, or those that were there.
 -- Assumes nothing.
-use Rattle.std.specs.Prelude.{◌≡◌, refl, List, [], ℕ, ◌+◌, ◌^◌, ◌≤◌, ◌<◌, length, get_or, set}
-use Rattle.std.proofs.Common.{sym, ap, ◌∙◌, ⊎_elim, arith, length-set, get_or-set_same, get_or-set_other}
-use Rattle.std.proofs.lemmas.List.{length-replicate, get_or-replicate}
+use Rattle.std.specs.Prelude.{◌≡◌, refl, List, [], ℕ, ◌+◌, ◌-◌, ◌^◌, ◌≤◌, ◌<◌, length, get_or, set, replicate}
+use Rattle.std.proofs.Common.{rules, sym, ap, ◌∙◌, ⊎_elim, arith, length-set, get_or-set_same, get_or-set_other}
+use Rattle.std.proofs.lemmas.List.{length-replicate, get_or-replicate, places}
+use borrow.Rule.Slice.PartMut.{put_mid}
 use Rattle.sizes.specs.Limits.{none32}
 use Rattle.sizes.specs.Layout.{top_word, remainder_word, cache_head, cache_count, fast_head, bin_first, bin_last, key_low}
 use Rattle.machine.specs.Lists.{hd, lst}
@@ -30,6 +31,15 @@ filled_more i k v r s l m f = record {
       (eq? n k);
   below = λ n a. get_or-set_other s k n v 0 (λ z. omega arith) ∙ f.below n a;
   above = λ n a. get_or-set_other s k n v 0 (λ z. omega arith) ∙ f.above n (omega arith);
+}
+
+-- the words from i up to j, all at once
+pub filled_all : (i j v : ℕ) (r : List ℕ) → i ≤ j → j ≤ length r → Filled i j v r (put_mid i (j - i) r (replicate (j - i) v))
+filled_all i j v r l m = record {
+  long = search (rules, places);
+  inside = λ n a b. search (rules, places);
+  below = λ n a. search (rules, places);
+  above = λ n a. search (rules, places);
 }
 
 -- ---- all from the last remainder up to the key none, then the counts 0, then the top t

@@ -54,11 +54,7 @@ fn fill(r: &mut [u32], i: usize, j: usize, v: u32)
     requires { (length r.old ≡ 396) × (i ≤ j) × (j ≤ 396) }
     ensures { Filled i j v r.old r.new }
 {
-    let mut k = i;
-    while k < j {
-        r[k] = v;
-        k += 1;
-    }
+    r[i..j].fill(v);
 }
 
 // The record's words for the heap of these tiles that has no list: every head, every bin's ends and the last remainder none, the counts 0, the top t. Length, key and

@@ -1,17 +1,14 @@
 -- What heapmend does, by the names that reviewers ask for: a sound heap has no line, a mended image reads sound, and a file that is refused leaves no image. Assumes nothing.
-use Rattle.std.specs.Prelude.{◌≡◌, refl, Bool, true, false, List, [], ◌∷◌, ℕ, ◌+◌, length}
+use Rattle.std.specs.Prelude.{◌≡◌, refl, Bool, true, false, List, [], ◌∷◌, ℕ, ◌+◌, length, Ok}
 use Rattle.std.proofs.Common.{sym, ap, ◌∙◌, subst, arith, eq-eqb}
 use Rattle.le.specs.Arena.{arena_words}
-use Rattle.machine.specs.Audit.{sound?, audit_by}
+use Rattle.machine.specs.Audit.{sound?, audit_by, Audited}
 use Rattle.machine.specs.Calls.{shape?, words_of, audit_call}
-use Rattle.machine.specs.declared.Audited.{Audited}
-use Rattle.machine.specs.declared.Audited.TheVariants as A
 use Rattle.audit_walks.specs.Tests.{is-sound}
 use Rattle.audit_reached.specs.Reached.{tiled?}
 use Rattle.calls.specs.Ways.{allowed-true, shape-allowed, audit-good}
 use Rattle.calls_consequences.specs.Results.{arena_left, record_left}
 use Rattle.calls_consequences.specs.Left.{lent-shape}
-use Rattle.image.specs.declared.Reading.TheVariants.{Read}
 use Rattle.image.specs.Image.{image, version_in, after_reading, read_call}
 use Rattle.image.specs.Ways.{clash, length-image}
 use Rattle.image.proofs.Lent.{Lent}
@@ -36,15 +33,15 @@ none-changed : (a r : List ℕ) → all_changes a r a r ≡ []
 none-changed a r = rw (changes-same record_letter 4 0 (words_of r)) (changes-same arena_letter 8 0 (arena_words a))
 
 -- ---- an image of a heap that passes the audit reads sound
-image-reads : (b q c s : List ℕ) → shape? b q ≡ true → audit_call b q ≡ A.Sound → Lent (image b q) c s → read_answered (read_call (image b q) c s) ≡ Read A.Sound
+image-reads : (b q c s : List ℕ) → shape? b q ≡ true → audit_call b q ≡ Ok tt → Lent (image b q) c s → read_answered (read_call (image b q) c s) ≡ Ok (Ok tt)
 image-reads b q c s h e l =
     let most = (allowed-true (length b) (shape-allowed b q h)).2 in
     let n = image-length b q (omega arith) in
     let k : length c ≡ length b = l.arena (omega (arith, length-image b q)) (omega arith) ∙ n in
-    ap read_answered (read-written b q c s h k l.long) ∙ ap Read e
+    ap read_answered (read-written b q c s h k l.long) ∙ ap Ok e
 
 -- ---- a file f of bytes, read into whatever is lent: what was read has arena bytes b and record bytes q, and the audit by the rules of its version says x
-module _ (f a r b q : List ℕ) (x : Audited) (small : Small f) (l : Lent f a r) (e : read_call f a r ≡ after_reading b q (Read x)) where
+module _ (f a r b q : List ℕ) (x : Audited) (small : Small f) (l : Lent f a r) (e : read_call f a r ≡ after_reading b q (Ok x)) where
   shape : shape? b q ≡ true
   shape = (lent-shape b q (read-lent f a r b q x small e)).1
 
@@ -62,11 +59,11 @@ module _ (f a r b q : List ℕ) (x : Audited) (small : Small f) (l : Lent f a r)
   sound-silent s = ap lines_of (sym (as_read s)) ∙ none-changed b q
 
   -- no fault of record or tile: the image of what is left reads sound
-  pub mended-reads : tiled? x ≡ true → (c s : List ℕ) → Lent (mended_image f) c s → read_answered (read_call (mended_image f) c s) ≡ Read A.Sound
+  pub mended-reads : tiled? x ≡ true → (c s : List ℕ) → Lent (mended_image f) c s → read_answered (read_call (mended_image f) c s) ≡ Ok (Ok tt)
   mended-reads t c s = by (sound? x) refl
     where
       Reads : List ℕ → Type 0
-      Reads g = Lent g c s → read_answered (read_call g c s) ≡ Read A.Sound
+      Reads g = Lent g c s → read_answered (read_call g c s) ≡ Ok (Ok tt)
 
       by : (u : Bool) → sound? x ≡ u → Reads (mended_image f)
       by true u = subst Reads (ap image_of (as_read u)) (image-reads b q c s shape (read-sound f a r b q x small e u))

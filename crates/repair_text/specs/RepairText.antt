@@ -1,12 +1,10 @@
 -- What heapmend makes of a file: what was read of it is mended by the rules of its version; a line is printed for each number that this changes, and the image of what it leaves
 -- is the newest version's. Definitions only.
-use Rattle.std.specs.Prelude.{List, [], ℕ, replicate}
+use Rattle.std.specs.Prelude.{List, [], ℕ, replicate, Ok, Err}
 use Rattle.sizes.specs.Limits.{record_bytes}
 use Rattle.text.specs.Text.{question_text}
 use Rattle.image.specs.Image.{image, version_in, length_in, read_call, AfterReading, after_reading, reading_numbers}
-use Rattle.image.specs.declared.Reading.TheVariants.{NoMark, NoVersion, WrongLength, Read}
 use Rattle.repair.specs.RepairCall.{AfterRepair, after_repair, repair_by, repair_numbers}
-use Rattle.repair.specs.declared.Repaired.TheVariants.{Done, Shape, Faulty}
 use Rattle.repair_text.specs.Changes.{all_changes}
 
 -- ---- a number of refusal, or what was read and what is left of it: arena bytes and record bytes of each
@@ -15,16 +13,13 @@ pub data Mending : Type 0 where
   mends : List ℕ → List ℕ → List ℕ → List ℕ → Mending
 
 abbrev pub mends_to : List ℕ → List ℕ → AfterRepair → Mending
-mends_to a r (after_repair b q Done) = mends a r b q
-mends_to a r (after_repair b q Shape) = refused (repair_numbers Shape).no
-mends_to a r (after_repair b q Faulty) = refused (repair_numbers Faulty).no
+mends_to a r (after_repair b q (Ok u)) = mends a r b q
+mends_to a r (after_repair b q (Err x)) = refused (repair_numbers (Err x)).no
 
 -- of a file of version v: 6, 7 and 1 as reading it is refused, then 11
 abbrev pub mends_read : ℕ → AfterReading → Mending
-mends_read v (after_reading a r NoMark) = refused (reading_numbers NoMark).no
-mends_read v (after_reading a r NoVersion) = refused (reading_numbers NoVersion).no
-mends_read v (after_reading a r WrongLength) = refused (reading_numbers WrongLength).no
-mends_read v (after_reading a r (Read x)) = mends_to a r (repair_by v a r)
+mends_read v (after_reading a r (Err u)) = refused (reading_numbers (Err u)).no
+mends_read v (after_reading a r (Ok x)) = mends_to a r (repair_by v a r)
 
 unfoldable pub mending : List ℕ → Mending
 mending f = mends_read (version_in f) (read_call f (replicate (length_in f) 0) (replicate record_bytes 0))

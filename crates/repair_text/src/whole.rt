@@ -9,9 +9,9 @@ ghost use Rattle.repair_text.specs.RepairText.{mends_to, lines_of, image_of, men
 
 use crate::Mend;
 use crate::changes::{put_arena_changes, put_record_changes};
-use image::{ARENA_AT, Reading};
-use repair::Repaired;
-use text::put_question;
+use image::ARENA_AT;
+use repair::Unmended;
+use text::Page;
 
 // The line of a refusal's number; there is no image then.
 fn refuse(out: &mut [u8], no: u64) -> Mend
@@ -20,8 +20,12 @@ fn refuse(out: &mut [u8], no: u64) -> Mend
     ensures image_value { result.image ≡ 0 }
     ensures out_after { take result.lines out.new ≡ question_text no }
 {
-    let n = put_question(out, 0, no);
-    Mend { lines: n, image: 0 }
+    let mut page = Page { out, at: 0 };
+    page.question(no);
+    Mend {
+        lines: page.at,
+        image: 0,
+    }
 }
 
 // The lines of what changed between two heaps of one length, from arena0 and control0 to arena and control.
@@ -37,8 +41,10 @@ fn put_changes(
     ensures upper_bound { result ≤ 2155660 }
     ensures out_after { take result out.new ≡ all_changes arena0.now control0.now arena.now control.now }
 {
-    let at = put_record_changes(out, 0, control0, control);
-    put_arena_changes(out, at, arena0, arena)
+    let mut page = Page { out, at: 0 };
+    put_record_changes(&mut page, control0, control);
+    put_arena_changes(&mut page, arena0, arena);
+    page.at
 }
 
 // The image of a heap, in the first bytes of those lent.
@@ -49,7 +55,7 @@ fn put_image(mended: &mut [u8], arena: &[u8], control: &[u8]) -> usize
     ensures mended_after { take result mended.new ≡ image arena.now control.now }
 {
     let n = ARENA_AT + arena.len();
-    image::write_image(arena, control, &mut mended[..n]);
+    let _ = image::write_image(arena, control, &mut mended[..n]);
     n
 }
 
@@ -61,7 +67,7 @@ fn put_repaired(
     control0: &[u8],
     arena: &[u8],
     control: &[u8],
-    x: Repaired,
+    x: Result<(), Unmended>,
 ) -> Mend
     requires control0_value { (shape? arena0.now control0.now ≡ true) × (shape? arena.now control.now ≡ true) × (length arena0.now ≡ length arena.now) }
     requires out_len { length out.old ≡ 2155660 }
@@ -71,17 +77,12 @@ fn put_repaired(
     ensures mended_after { take result.image mended.new ≡ image_of (mends_to arena0.now control0.now (after_repair arena.now control.now x)) }
 {
     match x {
-        Repaired::Done => {
+        Ok(()) => {
             let n = put_changes(out, arena0, control0, arena, control);
             let m = put_image(mended, arena, control);
-            return Mend { lines: n, image: m };
+            Mend { lines: n, image: m }
         }
-        Repaired::Shape => {
-            return refuse(out, 1);
-        }
-        Repaired::Faulty => {
-            return refuse(out, 11);
-        }
+        Err(unmended) => refuse(out, u64::from(unmended.no())),
     }
 }
 
@@ -106,20 +107,12 @@ pub fn mend_file(
     let before = &mut arena0[..n];
     let x = image::read_image(file, before, control0);
     match x {
-        Reading::NoMark => {
-            return refuse(out, 6);
-        }
-        Reading::NoVersion => {
-            return refuse(out, 7);
-        }
-        Reading::WrongLength => {
-            return refuse(out, 1);
-        }
-        Reading::Read(_) => {
+        Ok(_) => {
             let after = &mut arena[..n];
-            image::read_image(file, after, control);
+            let _ = image::read_image(file, after, control);
             let y = repair::repair_by(after, control, image::version_in(file) as u32);
-            return put_repaired(out, mended, before, control0, after, control, y);
+            put_repaired(out, mended, before, control0, after, control, y)
         }
+        Err(unread) => refuse(out, u64::from(unread.no())),
     }
 }

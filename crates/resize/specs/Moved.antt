@@ -1,13 +1,12 @@
 -- A new block is sought, and joined to the old one or filled with its usable words, and the code follows the machine. Steps 2 to 9 leave the old block as it was.
 -- One lemma for each way, and what each call requires. Assumes nothing.
-use Rattle.std.specs.Prelude.{◌≡◌, refl, List, ℕ, zero, suc, ◌+◌, ◌-◌, ◌*◌, ◌/◌, ◌%◌, ◌≤◌, ◌<◌, length}
+use Rattle.std.specs.Prelude.{◌≡◌, refl, List, ℕ, zero, suc, ◌+◌, ◌-◌, ◌*◌, ◌/◌, ◌%◌, ◌≤◌, ◌<◌, length, Option, Some, None}
 use Rattle.std.proofs.Common.{sym, ap, ◌∙◌, subst, arith, eq-eqb, ne_eqb}
 use Rattle.machine.specs.Heap.{Heap, size_of}
 use Rattle.machine.specs.Writes.{Write, copy, put, apply, Ran, ran, heap_of, does, giving, more, ◌>>=◌}
 use Rattle.machine.specs.Release.{release}
 use Rattle.machine.specs.Grant.{seek}
 use Rattle.machine.specs.Resize.{copies_from, copies, moved}
-use Rattle.machine.specs.declared.{Got.Got, Got.TheVariants.At, Got.TheVariants.Nothing}
 use Rattle.sound.specs.Relation.{Mem, Loose, Good}
 use Rattle.sound.specs.Tiles.{starts-once}
 use Rattle.sound.specs.Apart.{tiled-tiles}
@@ -79,27 +78,27 @@ module _ (h : Heap) (w r : List ℕ) (c z d : ℕ) (o : Ok h w r) (M : Moves h c
         (D.does h copied-ok (M.live.good, M.live.loose))
 
 -- ---- what becomes of the block that was found
-copy_gave : (ws : List Write) (s : Ran ℕ) (d : ℕ) {w v q : List ℕ} → Gave (Unit {0}) (more ws (giving tt s)) tt w v q → Gave Got (giving (At d) (more ws s)) (At d) w v q
+copy_gave : (ws : List Write) (s : Ran ℕ) (d : ℕ) {w v q : List ℕ} → Gave (Unit {0}) (more ws (giving tt s)) tt w v q → Gave (Option ℕ) (giving (Some d) (more ws s)) (Some d) w v q
 copy_gave ws (ran h vs n) d m = record { says = refl; bytes = m.bytes; rec = m.rec }
 
 module _ (c z b : ℕ) where
-  none-gave : (s : Ran Got) {w v q : List ℕ} → Gave Got s Nothing w v q → Gave Got (moved c b z s) Nothing w v q
-  none-gave (ran h ws Nothing) m = m
-  none-gave (ran h ws (At d)) m = got-absurd m.says
+  none-gave : (s : Ran (Option ℕ)) {w v q : List ℕ} → Gave (Option ℕ) s None w v q → Gave (Option ℕ) (moved c b z s) None w v q
+  none-gave (ran h ws None) m = m
+  none-gave (ran h ws (Some d)) m = got-absurd m.says
 
-  near-gave : (s : Ran Got) (d : ℕ) {w v q v₁ q₁ : List ℕ} → Gave Got s (At d) w v q → d ≡ c + z → Gave (Unit {0}) (widen_finish c b (heap_of s)) tt v v₁ q₁
-      → Gave Got (moved c b z s) (At c) w v₁ q₁
-  near-gave (ran h ws Nothing) d m e n = got-absurd (sym m.says)
-  near-gave (ran h ws (At x)) d m e n =
+  near-gave : (s : Ran (Option ℕ)) (d : ℕ) {w v q v₁ q₁ : List ℕ} → Gave (Option ℕ) s (Some d) w v q → d ≡ c + z → Gave (Unit {0}) (widen_finish c b (heap_of s)) tt v v₁ q₁
+      → Gave (Option ℕ) (moved c b z s) (Some c) w v₁ q₁
+  near-gave (ran h ws None) d m e n = got-absurd (sym m.says)
+  near-gave (ran h ws (Some x)) d m e n =
       let q : x ≡ c + z = ap (now_at 0) m.says ∙ e in
-      rw (eq-eqb x (c + z) q) (gave-more ws (giving (At c) (widen_finish c b h)) (At c) m.bytes (gave-giving (widen_finish c b h) tt (At c) n))
+      rw (eq-eqb x (c + z) q) (gave-more ws (giving (Some c) (widen_finish c b h)) (Some c) m.bytes (gave-giving (widen_finish c b h) tt (Some c) n))
 
-  far-gave : (s : Ran Got) (d : ℕ) {w v q v₁ q₁ : List ℕ} → Gave Got s (At d) w v q → (d ≡ c + z → ⊥) → Gave (Unit {0}) (copy_release c z d (heap_of s)) tt v v₁ q₁
-      → Gave Got (moved c b z s) (At d) w v₁ q₁
-  far-gave (ran h ws Nothing) d m ne n = got-absurd (sym m.says)
-  far-gave (ran h ws (At x)) d {w} {v₁ = v₁} {q₁ = q₁} m ne n =
-      subst (λ (x : ℕ). Gave Got (moved c b z (ran h ws (At x))) (At d) w v₁ q₁) (sym (ap (now_at 0) m.says))
-      (rw (ne_eqb d (c + z) ne) (gave-more ws (giving (At d) (does h (copies d c (z / 8 - 1)) >>= (λ g. release c g))) (At d) m.bytes
+  far-gave : (s : Ran (Option ℕ)) (d : ℕ) {w v q v₁ q₁ : List ℕ} → Gave (Option ℕ) s (Some d) w v q → (d ≡ c + z → ⊥) → Gave (Unit {0}) (copy_release c z d (heap_of s)) tt v v₁ q₁
+      → Gave (Option ℕ) (moved c b z s) (Some d) w v₁ q₁
+  far-gave (ran h ws None) d m ne n = got-absurd (sym m.says)
+  far-gave (ran h ws (Some x)) d {w} {v₁ = v₁} {q₁ = q₁} m ne n =
+      subst (λ (x : ℕ). Gave (Option ℕ) (moved c b z (ran h ws (Some x))) (Some d) w v₁ q₁) (sym (ap (now_at 0) m.says))
+      (rw (ne_eqb d (c + z) ne) (gave-more ws (giving (Some d) (does h (copies d c (z / 8 - 1)) >>= (λ g. release c g))) (Some d) m.bytes
       (copy_gave (copies d c (z / 8 - 1)) (release c h) d n)))
 
 -- ---- a block d of at least b was found, and c is as it was
@@ -113,9 +112,9 @@ module _ (h : Heap) (w r : List ℕ) (c z b : ℕ) (o : Ok h w r) (L : Live h c 
   short : size_of h c ≤ b
   short = omega (arith, L.whole)
 
-  new : (s : Ran Got) (d : ℕ) {v q : List ℕ} → Leaves h w s (Found b h) gave nil → Gave Got s (At d) w v q → New (heap_of s) c z b d × Ok (heap_of s) v q
-  new (ran g ws Nothing) d l m = got-absurd (sym m.says)
-  new (ran g ws (At x)) d l m =
+  new : (s : Ran (Option ℕ)) (d : ℕ) {v q : List ℕ} → Leaves h w s (Found b h) gave nil → Gave (Option ℕ) s (Some d) w v q → New (heap_of s) c z b d × Ok (heap_of s) v q
+  new (ran g ws None) d l m = got-absurd (sym m.says)
+  new (ran g ws (Some x)) d l m =
       let e : x ≡ d = ap (now_at 0) m.says in (
         subst (New g c z b) e (record {
           live = record {
@@ -127,19 +126,19 @@ module _ (h : Heap) (w r : List ℕ) (c z b : ℕ) (o : Ok h w r) (L : Live h c 
           apart = new_apart h w c b L.good L.loose b16 b32 short g ws x l;
           enough = l.now.1;
         }),
-        gave-ok (ran g ws (At x)) (At d) l.now.0.shape l.mem m,
+        gave-ok (ran g ws (Some x)) (Some d) l.now.0.shape l.mem m,
       )
 
   leaves : Leaves h w (seek b h) (Found b h) gave nil
   leaves = seek-leaves b b16 b32 h w L.good o.mem
 
-  module _ (x : Got) {v q : List ℕ} (D : Does Got Good (seek b) w r x v q) where
-    pub sought-none-gave : x ≡ Nothing → Gave Got (sought c z b h) Nothing w v q
-    sought-none-gave e = none-gave c z b (seek b h) (subst (λ (x : Got). Gave Got (seek b h) x w v q) e (D.does h o L.good))
+  module _ (x : Option ℕ) {v q : List ℕ} (D : Does (Option ℕ) Good (seek b) w r x v q) where
+    pub sought-none-gave : x ≡ None → Gave (Option ℕ) (sought c z b h) None w v q
+    sought-none-gave e = none-gave c z b (seek b h) (subst (λ (x : Option ℕ). Gave (Option ℕ) (seek b h) x w v q) e (D.does h o L.good))
 
-    module _ (d : ℕ) (e : x ≡ At d) where
-      found : Gave Got (seek b h) (At d) w v q
-      found = subst (λ (x : Got). Gave Got (seek b h) x w v q) e (D.does h o L.good)
+    module _ (d : ℕ) (e : x ≡ Some d) where
+      found : Gave (Option ℕ) (seek b h) (Some d) w v q
+      found = subst (λ (x : Option ℕ). Gave (Option ℕ) (seek b h) x w v q) e (D.does h o L.good)
 
       found-new : New (heap_of (seek b h)) c z b d
       found-new = (new (seek b h) d leaves found).0
@@ -160,7 +159,7 @@ module _ (h : Heap) (w r : List ℕ) (c z b : ℕ) (o : Ok h w r) (L : Live h c 
         pub sought-near-has : Has (λ g. Widens g c z b) v q
         sought-near-has = record { heap = heap_of (seek b h); ok = found_ok; holds = near-widens }
 
-        pub sought-near-gave : {v₁ q₁ : List ℕ} → Does (Unit {0}) (λ g. Widens g c z b) (widen_finish c b) v q tt v₁ q₁ → Gave Got (sought c z b h) (At c) w v₁ q₁
+        pub sought-near-gave : {v₁ q₁ : List ℕ} → Does (Unit {0}) (λ g. Widens g c z b) (widen_finish c b) v q tt v₁ q₁ → Gave (Option ℕ) (sought c z b h) (Some c) w v₁ q₁
         sought-near-gave E = near-gave c z b (seek b h) d found at (E.does (heap_of (seek b h)) found_ok near-widens)
 
       -- elsewhere
@@ -171,5 +170,5 @@ module _ (h : Heap) (w r : List ℕ) (c z b : ℕ) (o : Ok h w r) (L : Live h c 
       sought-far-has = record { heap = heap_of (seek b h); ok = found_ok; holds = far-moves }
 
       pub sought-far-gave : {v₁ q₁ : List ℕ} → (d ≡ c + z → ⊥) → Does (Unit {0}) (λ g. Moves g c z d) (copy_release c z d) v q tt v₁ q₁
-          → Gave Got (sought c z b h) (At d) w v₁ q₁
+          → Gave (Option ℕ) (sought c z b h) (Some d) w v₁ q₁
       sought-far-gave ne E = far-gave c z b (seek b h) d found ne (E.does (heap_of (seek b h)) found_ok far-moves)

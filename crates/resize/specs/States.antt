@@ -1,5 +1,5 @@
 -- The heaps that a resize goes through, as its parts require them, and its last parts as one. Definitions only.
-use Rattle.std.specs.Prelude.{◌≡◌, Bool, List, ℕ, ◌+◌, ◌-◌, ◌/◌, ◌≤◌, eqb, ltb, leb, get_or}
+use Rattle.std.specs.Prelude.{◌≡◌, Bool, List, ℕ, ◌+◌, ◌-◌, ◌/◌, ◌≤◌, eqb, ltb, leb, get_or, Option}
 use Rattle.sizes.specs.Layout.{length_word, top_word}
 use Rattle.machine.specs.Lists.{both}
 use Rattle.machine.specs.Heap.{Tile, Heap, end_from, top_of, top_size, size_of, next, binned, bin_has}
@@ -8,7 +8,6 @@ use Rattle.machine.specs.Primitives.{unlink, widen}
 use Rattle.machine.specs.Release.{release}
 use Rattle.machine.specs.Grant.{seek}
 use Rattle.machine.specs.Resize.{finish, copies, moved}
-use Rattle.machine.specs.declared.{Got.Got}
 use Rattle.sound.specs.Relation.{Good, Loose}
 use Rattle.sound.specs.Finish.{Held}
 use Rattle.sound.specs.Widen.{Beside}
@@ -78,5 +77,5 @@ take_in c b h = unlink (bin_has h (next h c)) (next h c) h >>= (λ g. widen c g 
 abbrev pub copy_release : ℕ → ℕ → ℕ → Heap → Ran (Unit {0})
 copy_release c z d h = does h (copies d c (z / 8 - 1)) >>= (λ g. giving tt (release c g))
 
-abbrev pub sought : ℕ → ℕ → ℕ → Heap → Ran Got
+abbrev pub sought : ℕ → ℕ → ℕ → Heap → Ran (Option ℕ)
 sought c z b h = moved c b z (seek b h)

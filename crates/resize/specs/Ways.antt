@@ -1,5 +1,5 @@
 -- Each way through a resize: the tests that led there, as the code makes them, and the parts that were followed. Assumes nothing.
-use Rattle.std.specs.Prelude.{◌≡◌, Bool, List, ℕ, ◌+◌, ◌-◌, ◌≤◌, ◌<◌, eqb, ltb, get_or}
+use Rattle.std.specs.Prelude.{◌≡◌, Bool, List, ℕ, ◌+◌, ◌-◌, ◌≤◌, ◌<◌, eqb, ltb, get_or, Option, Some}
 use Rattle.std.proofs.Math.Path.{sym}
 use Rattle.std.proofs.Common.{ap, ◌∙◌, arith}
 use Rattle.std.proofs.Math.Bool.{true, false}
@@ -12,7 +12,6 @@ use Rattle.machine.specs.Heap.{Heap, top_of, top_size, size_of, next, binned}
 use Rattle.machine.specs.Primitives.{grow_top}
 use Rattle.machine.specs.Resize.{finish, resize}
 use Rattle.machine.specs.View.{size_at}
-use Rattle.machine.specs.declared.{Got.Got, Got.TheVariants.At}
 use Rattle.sound.specs.Relation.{Loose, Good}
 use Rattle.sound.specs.Release.{both_true}
 use Rattle.primitives.specs.Follow.{Ok, Gave, Does}
@@ -53,11 +52,11 @@ module _ (h : Heap) (w r : List ℕ) (c z b : ℕ) (o : Ok h w r) (L : Live h c 
         rw m (ap (leb b) s)
 
   -- ---- large enough
-  pub stays-gave : {v q : List ℕ} → b ≤ z → Does (Unit {0}) (λ g. Stands g c z) (finish c b) w r tt v q → Gave Got (resize c b h) (At c) w v q
+  pub stays-gave : {v q : List ℕ} → b ≤ z → Does (Unit {0}) (λ g. Stands g c z) (finish c b) w r tt v q → Gave (Option ℕ) (resize c b h) (Some c) w v q
   unfolding resize
   stays-gave l D =
       let t : leb b (size_of h c) ≡ true = le-leb b (size_of h c) (omega (arith, L.whole)) in
-      rw (t, resize) (gave-giving (finish c b h) tt (At c) (D.does h o (live-stands h c z L)))
+      rw (t, resize) (gave-giving (finish c b h) tt (Some c) (D.does h o (live-stands h c z L)))
 
   module _ (l : z < b) where
     short : leb b (size_of h c) ≡ false
@@ -83,11 +82,11 @@ module _ (h : Heap) (w r : List ℕ) (c z b : ℕ) (o : Ok h w r) (L : Live h c 
               enough = leb-true (b + 32) (size_of h c + top_size h) q.1;
             }
 
-        pub top-gave : {v q : List ℕ} → Does (Unit {0}) (λ g. Grows g c b) (grow_top c b) w r tt v q → Gave Got (resize c b h) (At c) w v q
+        pub top-gave : {v q : List ℕ} → Does (Unit {0}) (λ g. Grows g c b) (grow_top c b) w r tt v q → Gave (Option ℕ) (resize c b h) (Some c) w v q
         unfolding resize
         top-gave D =
             let q : both (eqb (next h c) (top_of h)) (leb (b + 32) (size_of h c + top_size h)) ≡ true = top-is ∙ y in
-            rw (short, q, resize) (gave-giving (grow_top c b h) tt (At c) (D.does h o top-grows))
+            rw (short, q, resize) (gave-giving (grow_top c b h) tt (Some c) (D.does h o top-grows))
 
       module _ (n : t ≡ false) where
         not_top : both (eqb (next h c) (top_of h)) (leb (b + 32) (size_of h c + top_size h)) ≡ false
@@ -105,14 +104,14 @@ module _ (h : Heap) (w r : List ℕ) (c z b : ℕ) (o : Ok h w r) (L : Live h c 
                   enough = omega (arith, leb-true b (size_of h c + size_of h (next h c)) q.1, ap (size_of h) next-same, L.whole);
                 }
 
-            pub behind-gave : {v q : List ℕ} → Does (Unit {0}) (λ g. Reaches g c z b) (take_in c b) w r tt v q → Gave Got (resize c b h) (At c) w v q
+            pub behind-gave : {v q : List ℕ} → Does (Unit {0}) (λ g. Reaches g c z b) (take_in c b) w r tt v q → Gave (Option ℕ) (resize c b h) (Some c) w v q
             unfolding resize
             behind-gave D =
                 let q : behind_reaches h c b ≡ true = sym es ∙ i in
-                rw (short, not_top, q, resize) (gave-giving (take_in c b h) tt (At c) (D.does h o behind-reaches))
+                rw (short, not_top, q, resize) (gave-giving (take_in c b h) tt (Some c) (D.does h o behind-reaches))
 
           -- ---- a new block
-          pub sought-gave : {x : Got} {v q : List ℕ} → s ≡ false → Does Got (λ g. Live g c z) (sought c z b) w r x v q → Gave Got (resize c b h) x w v q
+          pub sought-gave : {x : Option ℕ} {v q : List ℕ} → s ≡ false → Does (Option ℕ) (λ g. Live g c z) (sought c z b) w r x v q → Gave (Option ℕ) (resize c b h) x w v q
           unfolding resize
           sought-gave i D =
               let q : behind_reaches h c b ≡ false = sym es ∙ i in

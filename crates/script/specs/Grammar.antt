@@ -1,11 +1,10 @@
 -- What a line of a script means: letter, one blank, 1 to 7 digits; for Z the same twice; S alone; anything else is of another form. Definitions only.
 -- A line is the list of its bytes, without the newline.
-use Rattle.std.specs.Prelude.{List, [], ◌∷◌, Bool, true, false, ℕ, ◌+◌, ◌*◌, ◌-◌, eqb, leb, length, take}
+use Rattle.std.specs.Prelude.{List, [], ◌∷◌, Bool, true, false, ℕ, ◌+◌, ◌*◌, ◌-◌, eqb, leb, length, take, Option, Some, None}
 use Rattle.text.specs.Text.{blank}
 use Rattle.machine.specs.Lists.{both}
-use Rattle.script.specs.declared.{Line.Line, Number.Number, LineText.LineText}
+use Rattle.script.specs.declared.{Line.Line, LineText.LineText}
 use Rattle.script.specs.declared.Line.TheVariants.{Open, Grant, Release, Resize, Settle, Other}
-use Rattle.script.specs.declared.Number.TheVariants.{Of, Nothing}
 
 -- the bytes that have a meaning: capitals, a blank, digits
 abbrev pub letter_a : ℕ
@@ -27,17 +26,17 @@ abbrev pub digit? : ℕ → Bool
 digit? b = both (leb 48 b) (leb b 57)
 
 -- the number that a list of digits spells, after digits that spell n
-unfoldable pub digits_from : ℕ → List ℕ → Number
-digits_from n [] = Of n
-digits_from n (b ∷ l) = elim (digit? b) [ true ↦ digits_from (10 * n + (b - 48)) l | false ↦ Nothing ]
+unfoldable pub digits_from : ℕ → List ℕ → Option ℕ
+digits_from n [] = Some n
+digits_from n (b ∷ l) = elim (digit? b) [ true ↦ digits_from (10 * n + (b - 48)) l | false ↦ None ]
 
 -- a number has 1 to 7 digits; leading zeros are allowed
-unfoldable pub number_of : List ℕ → Number
-number_of l = elim (both (leb 1 (length l)) (leb (length l) 7)) [ true ↦ digits_from 0 l | false ↦ Nothing ]
+unfoldable pub number_of : List ℕ → Option ℕ
+number_of l = elim (both (leb 1 (length l)) (leb (length l) 7)) [ true ↦ digits_from 0 l | false ↦ None ]
 
 -- A, G and R have one number
-abbrev pub numbered : ℕ → Number → Line
-numbered x (Of n) =
+abbrev pub numbered : ℕ → Option ℕ → Line
+numbered x (Some n) =
     elim (eqb x letter_a) [
       | true ↦ Open n
       | false ↦ elim (eqb x letter_g) [
@@ -45,7 +44,7 @@ numbered x (Of n) =
         | false ↦ elim (eqb x letter_r) [ true ↦ Release n | false ↦ Other ]
       ]
     ]
-numbered x Nothing = Other
+numbered x None = Other
 
 -- Z has two, with one blank between: the bytes before the first blank, and those behind it; without a blank all, and none
 unfoldable pub before_blank : List ℕ → List ℕ
@@ -56,10 +55,10 @@ unfoldable pub behind_blank : List ℕ → List ℕ
 behind_blank [] = []
 behind_blank (b ∷ l) = elim (eqb b blank) [ true ↦ l | false ↦ behind_blank l ]
 
-abbrev pub resized : Number → Number → Line
-resized (Of m) (Of n) = Resize m n
-resized (Of m) Nothing = Other
-resized Nothing n = Other
+abbrev pub resized : Option ℕ → Option ℕ → Line
+resized (Some m) (Some n) = Resize m n
+resized (Some m) None = Other
+resized None n = Other
 
 abbrev pub resize_of : List ℕ → Line
 resize_of l = resized (number_of (before_blank l)) (number_of (behind_blank l))

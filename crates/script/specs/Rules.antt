@@ -1,12 +1,11 @@
 -- Which line may stand where: the first line opens, up to 49,152 bytes, and no other does; a line of another form stands nowhere; a refused
 -- open ends the run. Definitions only.
-use Rattle.std.specs.Prelude.{Bool, true, false, not, ℕ, eqb, leb}
+use Rattle.std.specs.Prelude.{Bool, true, false, not, ℕ, eqb, leb, Ok, Err}
 use Rattle.machine.specs.Lists.{both}
-use Rattle.machine.specs.declared.Answer.{Answer}
-use Rattle.machine.specs.declared.Answer.TheVariants.{Done, Granted, Refused}
 use Rattle.script.specs.Grammar.{letter_a, letter_g, letter_r, letter_z, letter_s}
 use Rattle.script.specs.declared.Line.{Line}
 use Rattle.script.specs.declared.Line.TheVariants.{Open, Grant, Release, Resize, Settle, Other}
+use Rattle.machine.specs.Calls.{Answered}
 
 abbrev pub most_opened : ℕ
 most_opened = 49152
@@ -35,12 +34,11 @@ letter_of Settle = letter_s
 letter_of Other = 63
 
 -- whether the run ends with this line and its answer
-abbrev pub refused? : Answer → Bool
-refused? Done = false
-refused? (Granted m u) = false
-refused? (Refused x) = true
+abbrev pub refused? : Answered → Bool
+refused? (Ok a) = false
+refused? (Err x) = true
 
-abbrev pub ends_by? : Line → Answer → Bool
+abbrev pub ends_by? : Line → Answered → Bool
 ends_by? (Open n) x = refused? x
 ends_by? (Grant n) x = false
 ends_by? (Release m) x = false

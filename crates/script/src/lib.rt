@@ -2,6 +2,9 @@
 // script_format has the text that is printed. Assumes nothing.
 #![tactic(auto)]
 
+ghost use Rattle.std.specs.Prelude.{◌≡◌, [], ◌∷◌, ◌++◌, take};
+ghost use Rattle.script.specs.Grammar.{kept, kept_bytes};
+
 mod rules; // rules.rt: which line may stand where, and which one ends the run
 
 pub use rules::{MOST_OPENED, ends_by, in_place, letter_of};
@@ -17,19 +20,41 @@ pub enum Line {
     Other,
 }
 
-// What some bytes spell: a number, or none.
-#[derive(Clone, Copy)]
-pub enum Number {
-    Of(u32),
-    Nothing,
-}
-
 // How many bytes are kept of a line: one more than the longest good one has, which is a resize with two numbers of 7 digits.
 pub const KEPT_BYTES: usize = 18;
 
 // The first bytes of a line that is being read.
+// Kept: bytes with a length beside them, since the project's memory is fixed.
 #[derive(Clone, Copy)]
 pub struct LineText {
     pub text: [u8; KEPT_BYTES],
     pub len: usize,
+}
+
+impl LineText {
+    pub fn new() -> LineText
+        ensures { kept result ≡ [] }
+    {
+        LineText {
+            text: [0u8; KEPT_BYTES],
+            len: 0,
+        }
+    }
+
+    // One byte more, if there is room for it.
+    pub fn push(&mut self, b: u8)
+        ensures { kept self.new ≡ take kept_bytes (kept self.old ++ (b ∷ [])) }
+    {
+        if self.len < KEPT_BYTES {
+            self.text[self.len] = b;
+            self.len += 1;
+        }
+    }
+
+    // The bytes that are kept: where len says more than there are, all.
+    pub fn as_slice(&self) -> &[u8]
+        ensures { result.now ≡ kept self.now }
+    {
+        self.text.get(..self.len).unwrap_or(&self.text)
+    }
 }

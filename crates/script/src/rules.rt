@@ -1,9 +1,9 @@
 // Which line may stand where in a script: A in the first line and nowhere else, and not above what heaplog has; and which one ends the run. Assumes nothing.
 ghost use Rattle.std.specs.Prelude.{◌≡◌};
-ghost use Rattle.script.specs.Rules.{in_place?, letter_of, refused?, ends_by?};
+ghost use Rattle.script.specs.Rules.{in_place?, letter_of, ends_by?};
 
 use crate::Line;
-use machine::Answer;
+use machine::{Answer, Refusal};
 
 // The longest arena that a script can open.
 pub const MOST_OPENED: u32 = 49152;
@@ -13,11 +13,8 @@ pub fn in_place(k: u64, line: Line) -> bool
     ensures { result ≡ in_place? k line }
 {
     match line {
-        Line::Open(n) => { if k == 1 { n <= MOST_OPENED } else { false } }
-        Line::Grant(_) => k != 1,
-        Line::Release(_) => k != 1,
-        Line::Resize { mem: _, n: _ } => k != 1,
-        Line::Settle => k != 1,
+        Line::Open(n) => k == 1 && n <= MOST_OPENED,
+        Line::Grant(_) | Line::Release(_) | Line::Resize { .. } | Line::Settle => k != 1,
         Line::Other => false,
     }
 }
@@ -30,32 +27,15 @@ pub fn letter_of(line: Line) -> u8
         Line::Open(_) => b'A',
         Line::Grant(_) => b'G',
         Line::Release(_) => b'R',
-        Line::Resize { mem: _, n: _ } => b'Z',
+        Line::Resize { .. } => b'Z',
         Line::Settle => b'S',
         Line::Other => b'?',
     }
 }
 
-fn is_refused(x: Answer) -> bool
-    ensures { result ≡ refused? x }
-{
-    match x {
-        Answer::Done => false,
-        Answer::Granted { mem: _, usable: _ } => false,
-        Answer::Refused(_) => true,
-    }
-}
-
 // A refused open ends the run.
-pub fn ends_by(line: Line, x: Answer) -> bool
+pub fn ends_by(line: Line, x: Result<Answer, Refusal>) -> bool
     ensures { result ≡ ends_by? line x }
 {
-    match line {
-        Line::Open(_) => is_refused(x),
-        Line::Grant(_) => false,
-        Line::Release(_) => false,
-        Line::Resize { mem: _, n: _ } => false,
-        Line::Settle => false,
-        Line::Other => false,
-    }
+    matches!(line, Line::Open(_)) && x.is_err()
 }

@@ -1,29 +1,44 @@
 -- What reading a line has to know: one turn of the loop over the digits, the first blank, the bytes kept of a line, a line by its first bytes. Assumes nothing.
 use mathlib.Core.Path.{◌≡◌, refl, sym, ap, ◌∙◌}
-use mathlib.Core.List.{List, [], ◌∷◌, ◌++◌}
+use mathlib.Core.List.{List, [], ◌∷◌}
 use mathlib.Core.Bool.{Bool, true, false}
-use Prim.Native.Nat.{ℕ, suc, ◌+◌, ◌*◌, ◌-◌, ◌≤◌, ◌<◌}
-use native.Mathlib.Numerals.{add-one}
+use Rattle.std.specs.Prelude.{Option, Some, None, cond, ◌&&◌, ◌==◌, nat_lt, position}
+use Rattle.std.specs.Char.{is_ascii_digit}
+use Rattle.std.specs.List.{position_or_len}
+use Rattle.std.proofs.lemmas.List.Recursion.{is_position_or_len}
+use Prim.Native.Nat.{ℕ, suc, ◌+◌, ◌*◌, ◌-◌, ◌^◌, ◌≤◌, ◌<◌}
+use native.Mathlib.Nat.{pow-le-pow_right, pow-succ'}
+use Rattle.std.proofs.Common.{lit≤}
+use native.Mathlib.Numerals.{add-one, one-add}
 use native.Mathlib.Omega.{arith}
 use lib.Dec.{eqb, leb}
-use lib.ListN.{length, take, drop, get_or, set, length-append, length-take, length-drop}
-use lib.Seq.{drop-cons, drop-length, take-suc-set, take_all, take-append-le}
-use borrow.Author.Tests.{le-leb, lt-leb, leb-true, ne_eqb}
+use lib.ListN.{length, take, drop, get_or, length-drop}
+use lib.Seq.{drop-cons, drop-length, take_all}
+use borrow.Author.Tests.{le-leb, lt-leb, leb-true, ltb-false, ne_eqb}
+use Rattle.std.proofs.lemmas.Bool.{eqb-true, eqb-false}
 use Rattle.machine.specs.Lists.{both}
 use Rattle.text.specs.Text.{blank}
-use Rattle.script.specs.Grammar.{digit?, digits_from, number_of, alone, letter_z, letter_s, numbered, before_blank, behind_blank, resized, spaced, line_of, kept_bytes}
-use Rattle.script.specs.declared.Number.{Number}
-use Rattle.script.specs.declared.Number.TheVariants.{Of, Nothing}
+use Rattle.script.specs.Grammar.{digit?, digits_from, number_of, alone, letter_z, letter_s, numbered, before_blank, behind_blank, resized, spaced, line_of}
 use Rattle.script.specs.declared.Line.TheVariants.{Settle, Other}
 
--- a digit is from 48 to 57
+-- a digit is from 48 to 57, by the test of std too
+pub digit-is : (b : ℕ) → is_ascii_digit b ≡ digit? b
+digit-is b = elim (leb 48 b) as (λ x. (x && leb b 57) ≡ both x (leb b 57)) [ true ↦ refl | false ↦ refl ]
+
 pub digit_low : (b : ℕ) → digit? b ≡ true → (48 ≤ b) × (b ≤ 57)
 digit_low b e = go (leb 48 b) refl (leb b 57) refl e
   where
     go : (x : Bool) → leb 48 b ≡ x → (y : Bool) → leb b 57 ≡ y → both x y ≡ true → (48 ≤ b) × (b ≤ 57)
     go true p true q e = (leb-true 48 b p, leb-true b 57 q)
-    go true p false q e = let z : ◌≡◌ {A = ℕ} 0 1 = cc in absurd (omega arith)
-    go false p y q e = let z : ◌≡◌ {A = ℕ} 0 1 = cc in absurd (omega arith)
+    go true p false q e = cc
+    go false p y q e = cc
+
+-- a digit more: the number is below the next power of 10, and below all that has 7 digits
+pub digit_fits : (n i b : ℕ) → n < 10 ^ i → b ≤ 57 → 10 * n + (b - 48) < 10 ^ (i + 1)
+digit_fits n i b h e = rw (add-one, pow-succ' 10 i) (omega arith)
+
+pub number_fits : (n i : ℕ) → n < 10 ^ i → i < 7 → n < 1000000
+number_fits n i h k = omega (arith, pow-le-pow_right {n = 10} (lit≤ tt) {i = i} {j = 6} (omega arith))
 
 -- ---- the loop over the digits of l
 pub digits-turn : (n i : ℕ) (l : List ℕ) → i < length l → digit? (get_or l i 0) ≡ true
@@ -31,34 +46,49 @@ pub digits-turn : (n i : ℕ) (l : List ℕ) → i < length l → digit? (get_or
 unfolding digits_from
 digits-turn n i l h e = rw (add-one, drop-cons l i 0 h, digits_from, e)
 
-pub digits-stop : (n i : ℕ) (l : List ℕ) → i < length l → digit? (get_or l i 0) ≡ false → digits_from n (drop i l) ≡ Nothing
+pub digits-stop : (n i : ℕ) (l : List ℕ) → i < length l → digit? (get_or l i 0) ≡ false → digits_from n (drop i l) ≡ None
 unfolding digits_from
 digits-stop n i l h e = rw (drop-cons l i 0 h, digits_from, e)
 
-pub digits-end : (n i : ℕ) (l : List ℕ) → i ≤ length l → length l ≤ i → digits_from n (drop i l) ≡ Of n
+pub digits-end : (n i : ℕ) (l : List ℕ) → i ≤ length l → length l ≤ i → digits_from n (drop i l) ≡ Some n
 unfolding digits_from
 digits-end n i l h k = let e : i ≡ length l = omega arith in rw (e, drop-length)
 
-pub number-good : (l : List ℕ) → 1 ≤ length l → length l ≤ 7 → number_of l ≡ digits_from 0 l
+pub number-good : (l : List ℕ) → (length l == 0) ≡ false → length l ≤ 7 → number_of l ≡ digits_from 0 l
 unfolding number_of
-number-good l h k = rw (number_of, le-leb 1 (length l) h, le-leb (length l) 7 k)
+number-good l h k =
+    let n : (length l ≡ 0 → ⊥) = eqb-false (length l) 0 h in
+    rw (number_of, le-leb 1 (length l) (omega arith), le-leb (length l) 7 k)
 
-pub number_short : (l : List ℕ) → length l < 1 → number_of l ≡ Nothing
+number_short : (l : List ℕ) → length l < 1 → number_of l ≡ None
 unfolding number_of
 number_short l h = rw (number_of, lt-leb 1 (length l) h)
 
--- ---- the loop that seeks a blank in l
-pub blank_turn : (i : ℕ) (l : List ℕ) → i < length l → (get_or l i 0 ≡ blank → ⊥) → length (before_blank (drop i l)) ≡ suc (length (before_blank (drop (i + 1) l)))
-unfolding before_blank
-blank_turn i l h e = rw (add-one, drop-cons l i 0 h, before_blank, ne_eqb (get_or l i 0) blank e)
+pub number-none : (l : List ℕ) → (length l == 0) ≡ true → number_of l ≡ None
+number-none l e = let n : length l ≡ 0 = eqb-true (length l) 0 e in number_short l (omega arith)
 
-pub blank-stop : (i : ℕ) (l : List ℕ) → i < length l → get_or l i 0 ≡ blank → length (before_blank (drop i l)) ≡ 0
+-- ---- the place of the first blank
+before_blank-length : (l : List ℕ) → length (before_blank l) ≡ position_or_len (λ b. b == blank) l
 unfolding before_blank
-blank-stop i l h e = rw (drop-cons l i 0 h, e)
+before_blank-length = is_position_or_len (λ l. length (before_blank l)) (λ b. b == blank) refl turn
+  where
+    turn : (b : ℕ) (l : List ℕ) → length (before_blank (b ∷ l)) ≡ cond (b == blank) 0 (1 + length (before_blank l))
+    turn b l = elim (eqb b blank) as (λ x. length {A = ℕ} (elim x [ true ↦ [] | false ↦ b ∷ before_blank l ]) ≡ cond x 0 (1 + length (before_blank l))) [ true ↦ refl | false ↦ sym (one-add _) ]
 
-pub blank-end : (i : ℕ) (l : List ℕ) → i ≤ length l → length l ≤ i → length (before_blank (drop i l)) ≡ 0
-unfolding before_blank
-blank-end i l h k = let e : i ≡ length l = omega arith in rw (e, drop-length)
+blank-some : (l : List ℕ) (i : ℕ) → position (λ b. b == blank) l ≡ Some i → i ≡ length (before_blank l)
+blank-some l i e = rw (before_blank-length l) (go (nat_lt (position_or_len (λ b. b == blank) l) (length l)) e)
+  where
+    go : (x : Bool) → cond x (Some (position_or_len (λ b. b == blank) l)) None ≡ Some i → i ≡ position_or_len (λ b. b == blank) l
+    go true e = cc
+    go false e = cc
+
+blank-none : (l : List ℕ) → position (λ b. b == blank) l ≡ None → length l ≤ length (before_blank l)
+blank-none l e = rw (before_blank-length l) (go (nat_lt (position_or_len (λ b. b == blank) l) (length l)) refl e)
+  where
+    go : (x : Bool) → nat_lt (position_or_len (λ b. b == blank) l) (length l) ≡ x → cond x (Some (position_or_len (λ b. b == blank) l)) None ≡ None
+        → length l ≤ position_or_len (λ b. b == blank) l
+    go true p e = cc
+    go false p e = ltb-false _ _ p
 
 -- ---- the bytes before the first blank, and those behind it, by its place
 before_blank-at : (l : List ℕ) → before_blank l ≡ take (length (before_blank l)) l
@@ -80,15 +110,6 @@ behind_blank-at (b ∷ l) = go (behind_blank-at l) (eqb b blank)
         → elim x [ true ↦ l | false ↦ behind_blank l ] ≡ drop (length {A = ℕ} (elim x [ true ↦ [] | false ↦ b ∷ before_blank l ])) l
     go e true = refl
     go e false = e
-
--- ---- the bytes kept of a line
-pub kept_more : (t : List ℕ) (n b : ℕ) → length t ≡ kept_bytes → n < kept_bytes → take (n + 1) (set t n b) ≡ take kept_bytes (take n t ++ (b ∷ []))
-kept_more t n b e h =
-    rw (add-one, take-suc-set t n b (omega arith)) (sym (take_all kept_bytes (take n t ++ (b ∷ [])) (simp (length-append, length-take) (omega arith))))
-
-pub kept_full : (t : List ℕ) (n b : ℕ) → length t ≡ kept_bytes → kept_bytes ≤ n → take n t ≡ take kept_bytes (take n t ++ (b ∷ []))
-kept_full t n b e h =
-    rw (take_all n t (omega arith), take-append-le kept_bytes t (b ∷ []) (omega arith)) (sym (take_all kept_bytes t (omega arith)))
 
 -- ---- a line by its length and its first bytes
 pub line-none : (l : List ℕ) → length l ≡ 0 → line_of l ≡ Other
@@ -124,19 +145,20 @@ alone-other x h = rw (alone, ne_eqb x letter_s h)
 pub spaced-one : (x : ℕ) (l : List ℕ) → (x ≡ letter_z → ⊥) → numbered x (number_of l) ≡ spaced x l
 spaced-one x l h = rw (spaced, ne_eqb x letter_z h)
 
-pub spaced-two : (x : ℕ) (l : List ℕ) {i : ℕ} → x ≡ letter_z → i ≡ length (before_blank l)
+pub spaced-two : (x : ℕ) (l : List ℕ) (i : ℕ) → x ≡ letter_z → position (λ b. b == blank) l ≡ Some i
     → resized (number_of (take i l)) (number_of (take (length l - (i + 1)) (drop (i + 1) l))) ≡ spaced x l
-spaced-two x l {i} e p =
+spaced-two x l i e q =
+    let p : i ≡ length (before_blank l) = blank-some l i q in
     let s : take i l ≡ before_blank l = rw p (sym (before_blank-at l)) in
     let t : take (length l - (i + 1)) (drop (i + 1) l) ≡ behind_blank l =
     take_all (length l - (i + 1)) (drop (i + 1) l) (simp length-drop (omega arith)) ∙ rw (add-one, p) (sym (behind_blank-at l)) in
     rw (e, s, t)
 
-resized-nothing : (m : Number) → Other ≡ resized m Nothing
-resized-nothing (Of m) = refl
-resized-nothing Nothing = refl
+resized-nothing : (m : Option ℕ) → Other ≡ resized m None
+resized-nothing (Some m) = refl
+resized-nothing None = refl
 
-pub spaced-none : (x : ℕ) (l : List ℕ) {i : ℕ} → x ≡ letter_z → i ≡ length (before_blank l) → i ≡ length l → Other ≡ spaced x l
-spaced-none x l e p q =
-    let n : length (behind_blank l) < 1 = rw (behind_blank-at l, length-drop) (omega arith) in
+pub spaced-none : (x : ℕ) (l : List ℕ) → x ≡ letter_z → position (λ b. b == blank) l ≡ None → Other ≡ spaced x l
+spaced-none x l e p =
+    let n : length (behind_blank l) < 1 = rw (behind_blank-at l, length-drop) (omega (arith, blank-none l p)) in
     rw (e, number_short (behind_blank l) n) (resized-nothing (number_of (before_blank l)))

@@ -1,11 +1,9 @@
 -- Laws of the grammar: the forms of documents 01 and 02 by computation, and that the first 18 bytes of a line decide what it means. Assumes nothing.
-use Rattle.std.specs.Prelude.{◌≡◌, refl, List, [], ◌∷◌, map, Bool, true, false, ℕ, zero, suc, ◌-◌, ◌≤◌, ◌<◌, eqb, leb, length, take}
+use Rattle.std.specs.Prelude.{◌≡◌, refl, List, [], ◌∷◌, map, Bool, true, false, ℕ, zero, suc, ◌-◌, ◌≤◌, ◌<◌, eqb, leb, length, take, Option, None}
 use Rattle.std.proofs.Common.{sym, ap, ◌∙◌, arith, length-take, take_all, le-leb, leb-true, leb-false}
 use Rattle.std.proofs.lemmas.Bool.{lt-leb}
 use Rattle.text.specs.Text.{blank}
 use Rattle.script.specs.Grammar.{letter_z, digits_from, number_of, numbered, before_blank, behind_blank, resized, resize_of, spaced, line_of, kept_bytes}
-use Rattle.script.specs.declared.Number.{Number}
-use Rattle.script.specs.declared.Number.TheVariants.{Nothing}
 use Rattle.script.specs.declared.Line.{Line}
 use Rattle.script.specs.declared.Line.TheVariants.{Open, Grant, Release, Resize, Settle, Other}
 
@@ -60,7 +58,7 @@ unfolding line_of number_of digits_from before_blank behind_blank
 other-resizes = refl
 
 -- a number of more than 7 digits is none, so 8 bytes decide
-pub number-long : (l : List ℕ) → 7 < length l → number_of l ≡ Nothing
+pub number-long : (l : List ℕ) → 7 < length l → number_of l ≡ None
 unfolding number_of
 number-long l h = rw (number_of, le-leb 1 (length l) (omega arith), lt-leb (length l) 7 h)
 
@@ -114,7 +112,7 @@ spaced-take k x l h = go (eqb x letter_z)
     go : (b : Bool)
         → ◌≡◌ {A = Line} (elim b [ true ↦ resize_of (take k l) | false ↦ numbered x (number_of (take k l)) ]) (elim b [ true ↦ resize_of l | false ↦ numbered x (number_of l) ])
     go true = resize_of-take k l h
-    go false = ap (λ (n : Number). numbered x n) (number_of-take k l (omega arith))
+    go false = ap (λ (n : Option ℕ). numbered x n) (number_of-take k l (omega arith))
 
 -- a line longer than the longest good one is of another form, whatever follows its first 18 bytes
 pub line_of-take : (l : List ℕ) → line_of (take kept_bytes l) ≡ line_of l

@@ -1,4 +1,5 @@
 -- How the steps of a run are put together from the calls of its parts. Assumes nothing.
+use Rattle.std.specs.Prelude.{Ok, Err}
 use mathlib.Core.Path.{◌≡◌, refl, sym, ap, ◌∙◌}
 use mathlib.Core.List.{List, [], ◌∷◌, ◌++◌, append_assoc, append-nil}
 use mathlib.Core.Bool.{Bool, true, false}
@@ -6,13 +7,13 @@ use Prim.Native.Nat.{ℕ, ◌+◌, ◌≤◌, ◌<◌}
 use native.Mathlib.Numerals.{add-one}
 use native.Mathlib.Omega.{arith}
 use lib.Dec.{leb}
-use lib.ListN.{length, take, drop, get_or, set, replicate, replicate-append-replicate}
-use lib.Seq.{take-suc, take-suc-set}
-use borrow.Author.Tests.{lt-ltb, le-ltb, leb-true, ne_eqb}
+use lib.ListN.{length, take, drop, get_or, replicate}
+use lib.Seq.{take-suc}
+use borrow.Author.Tests.{leb-true, ne_eqb}
 use Rattle.machine.specs.Lists.{both}
-use Rattle.machine.specs.Calls.{After, after, joining_call, joined_after}
-use Rattle.machine.specs.declared.{Answer.Answer, Refusal.Refusal}
-use Rattle.machine.specs.declared.Answer.TheVariants.{Done, Granted, Refused}
+use Rattle.machine.specs.Calls.{After, after, joining_call, joined_after, Answered}
+use Rattle.machine.specs.declared.{Refusal.Refusal}
+use Rattle.machine.specs.declared.Answer.TheVariants.{Done, Granted}
 use Rattle.script.specs.Rules.{in_place?, letter_of, first?, ends_by?}
 use Rattle.script.specs.Grammar.{line_of, kept_bytes}
 use Rattle.script.specs.declared.Line.{Line}
@@ -21,9 +22,6 @@ use Rattle.text.specs.Text.{question_text}
 use Rattle.script_format.specs.Format.{header, answer_text}
 use Rattle.script_run.specs.Run.{Run, run, Step, step, behind, and_on, before_all, line_call, called, length_of, top_after, ran_step, counted, placed_step, line_step, byte_step, piece_step, end_step}
 
-pub one-cleared : (l : List ℕ) (i : ℕ) → i < length l → take i l ≡ replicate i 0 → take (i + 1) (set l i 0) ≡ replicate (i + 1) 0
-one-cleared l i h e = rw add-one (take-suc-set l i 0 h) ∙ ap (λ (p : List ℕ). p ++ (0 ∷ [])) e ∙ replicate-append-replicate i 1 0
-
 alike : {a r t o a' r' o' : List ℕ} → a ≡ a' → r ≡ r' → t ≡ [] → o ≡ o' → step (run a r t 0 0 false) o ≡ step (run a' r' [] 0 0 false) o'
 alike p q s u = rw (p, q, s, u)
 
@@ -31,28 +29,22 @@ pub begun : (m n : ℕ) {a r t o : List ℕ} → m ≡ 49152 → n ≡ 1584 → 
 begun m n i j p q s u = alike (p ∙ ap (λ (k : ℕ). replicate k 0) i) (q ∙ ap (λ (k : ℕ). replicate k 0) j) s u
 
 -- ---- S: the emptying left b and q and answered x
-module _ (b q : List ℕ) (y : After) (x : Answer) (e : after b q x ≡ y) where
-  pub joined-done : x ≡ Done → {z : After} → z ≡ joining_call b q → z ≡ joined_after y
-  joined-done d j = j ∙ ap (λ (x : Answer). joined_after (after b q x)) (sym d) ∙ ap joined_after e
+module _ (b q : List ℕ) (y : After) (x : Answered) (e : after b q x ≡ y) where
+  pub joined-done : x ≡ Ok Done → {z : After} → z ≡ joining_call b q → z ≡ joined_after y
+  joined-done d j = j ∙ ap (λ (x : Answered). joined_after (after b q x)) (sym d) ∙ ap joined_after e
 
-  pub joined-granted : (m u : ℕ) → x ≡ Granted m u → after b q (Granted m u) ≡ joined_after y
-  joined-granted m u d = ap (λ (x : Answer). joined_after (after b q x)) (sym d) ∙ ap joined_after e
+  pub joined-granted : (m u : ℕ) → x ≡ Ok (Granted m u) → after b q (Ok (Granted m u)) ≡ joined_after y
+  joined-granted m u d = ap (λ (x : Answered). joined_after (after b q x)) (sym d) ∙ ap joined_after e
 
-  pub joined-refused : (n : Refusal) → x ≡ Refused n → after b q (Refused n) ≡ joined_after y
-  joined-refused n d = ap (λ (x : Answer). joined_after (after b q x)) (sym d) ∙ ap joined_after e
+  pub joined-refused : (n : Refusal) → x ≡ Err n → after b q (Err n) ≡ joined_after y
+  joined-refused n d = ap (λ (x : Answered). joined_after (after b q x)) (sym d) ∙ ap joined_after e
 
-pub within : (a r : List ℕ) (n : ℕ) (l : Line) {b s : List ℕ} {x : Answer} → after b s x ≡ line_call (take n a) r l → after (b ++ drop n a) s x ≡ called a r n l
+pub within : (a r : List ℕ) (n : ℕ) (l : Line) {b s : List ℕ} {x : Answered} → after b s x ≡ line_call (take n a) r l → after (b ++ drop n a) s x ≡ called a r n l
 unfolding called
 within a r n l e = rw (← e)
 
-pub count-more : (k : ℕ) → k < 18446744073709551615 → k + 1 ≡ counted k
-count-more k h = rw (counted, lt-ltb k 18446744073709551615 h)
-
-pub count_most : (k : ℕ) → 18446744073709551615 ≤ k → k ≡ counted k
-count_most k h = rw (counted, le-ltb k 18446744073709551615 h)
-
 -- ---- a line; p was printed before it
-pub ran : (p : List ℕ) (l : Line) (k n : ℕ) (c : After) {a r t o : List ℕ} {x : Answer} {e : Bool} {letter top : ℕ} → after a r x ≡ c → e ≡ ends_by? l x → top ≡ top_after e r
+pub ran : (p : List ℕ) (l : Line) (k n : ℕ) (c : After) {a r t o : List ℕ} {x : Answered} {e : Bool} {letter top : ℕ} → after a r x ≡ c → e ≡ ends_by? l x → top ≡ top_after e r
     → letter ≡ letter_of l → o ≡ p ++ answer_text letter x top → t ≡ [] → step (run a r t k n e) o ≡ behind p (ran_step l k n c)
 ran p l k n c h q s u v w = rw (← h, v, u, s, q, w)
 

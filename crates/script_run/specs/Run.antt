@@ -1,5 +1,5 @@
 -- A run of heaplog: what each line, each byte and the end of the script do to arena, record and counts, and what they print. Definitions only.
-use Rattle.std.specs.Prelude.{List, [], ◌∷◌, ◌++◌, Bool, true, false, ◌≡◌, ℕ, ◌+◌, ◌≤◌, eqb, ltb, length, take, drop, replicate}
+use Rattle.std.specs.Prelude.{List, [], ◌∷◌, ◌++◌, Bool, true, false, ◌≡◌, ℕ, ◌+◌, ◌≤◌, eqb, ltb, length, take, drop, replicate, Ok}
 use Rattle.le.specs.Number.{number}
 use Rattle.sizes.specs.Limits.{plain}
 use Rattle.machine.specs.Calls.{After, after, open_call, grant_call, release_call, resize_call, emptying_call, joined_after}
@@ -39,7 +39,7 @@ line_call a r (Grant n) = grant_call a r n
 line_call a r (Release m) = release_call a r m
 line_call a r (Resize m n) = resize_call a r m n
 line_call a r Settle = joined_after (emptying_call a r)
-line_call a r Other = after a r Done
+line_call a r Other = after a r (Ok Done)
 
 -- an open sets the arena's length
 abbrev pub length_of : Line → ℕ → ℕ

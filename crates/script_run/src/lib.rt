@@ -1,14 +1,15 @@
 // What a line, a byte, a piece and the end of the script do: each is a step of specs/Run.antt on the same bytes. Assumes nothing.
 #![tactic(auto)]
 
-ghost use Rattle.std.specs.Prelude.{◌≡◌, ◌+◌, ◌*◌, ◌≤◌, length, take, replicate};
+ghost use Rattle.std.specs.Prelude.{◌≡◌, ◌+◌, ◌*◌, ◌≤◌, length, take};
 ghost use Rattle.script_format.specs.Format.{header};
 ghost use Rattle.machine.specs.Calls.{after, emptying_call, joined_after};
 ghost use Rattle.script_run.specs.Run.{step, behind, before_all, line_call, called, length_of, top_after, counted, ran_step, line_step, byte_step, piece_step, end_step, run_of, Buffers, Within};
 
-use machine::Answer;
+use machine::{Answer, Refusal};
 use script::{Line, LineText};
 use sizes::PLAIN;
+use text::Page;
 
 // A run between two bytes: the line that is being read, how many lines were run, how long the opened arena is, whether the run has ended, and how many
 // bytes it has printed: so many stand in the output buffer, and a step prints behind them.
@@ -21,16 +22,6 @@ pub struct Log {
     pub printed: usize,
 }
 
-fn clear(bytes: &mut [u8])
-    ensures { bytes.new ≡ replicate (length bytes.old) 0 }
-{
-    let mut i = 0;
-    while i < bytes.len() {
-        bytes[i] = 0;
-        i += 1;
-    }
-}
-
 // Before the first line: the header is printed, and nothing is open.
 pub fn begin(arena: &mut [u8], control: &mut [u8], out: &mut [u8]) -> Log
     requires buffers { Buffers arena.old control.old }
@@ -38,65 +29,51 @@ pub fn begin(arena: &mut [u8], control: &mut [u8], out: &mut [u8]) -> Log
     ensures out_after { step (run_of arena.new control.new result) (take result.printed out.new) ≡ step before_all header }
     ensures within { Within result 22 }
 {
-    clear(arena);
-    clear(control);
-    let printed = script_format::put_header(out, 0);
-    let text = script_reader::no_bytes();
+    arena.fill(0);
+    control.fill(0);
+    let mut page = Page { out, at: 0 };
+    script_format::put_header(&mut page);
     Log {
-        text,
+        text: script_reader::no_bytes(),
         lines: 0,
         opened: 0,
         ended: false,
-        printed,
+        printed: page.at,
     }
 }
 
 // The two calls of S, in their order: the first refusal is answered.
-fn empty_and_join(arena: &mut [u8], control: &mut [u8]) -> Answer
+fn empty_and_join(arena: &mut [u8], control: &mut [u8]) -> Result<Answer, Refusal>
     ensures { after arena.new control.new result ≡ joined_after (emptying_call arena.old control.old) }
 {
-    let x = calls::emptying(arena, control);
+    let x = calls::emptying(arena, control)?;
     match x {
-        Answer::Done => {
-            return calls::joining(arena, control);
-        }
-        Answer::Granted { mem, usable } => {
-            return Answer::Granted { mem, usable };
-        }
-        Answer::Refused(refusal) => {
-            return Answer::Refused(refusal);
-        }
+        Answer::Done => calls::joining(arena, control),
+        Answer::Granted { .. } => Ok(x),
     }
 }
 
 // The call of a line, on the arena that it opens, with key 0 in edition 1, or that was opened.
-fn call(arena: &mut [u8], control: &mut [u8], line: Line) -> Answer
+fn call(arena: &mut [u8], control: &mut [u8], line: Line) -> Result<Answer, Refusal>
     ensures { after arena.new control.new result ≡ line_call arena.old control.old line }
 {
     match line {
-        Line::Open(_) => {
-            return calls::open(arena, control, 0, PLAIN);
-        }
-        Line::Grant(n) => {
-            return calls::grant(arena, control, n as u64);
-        }
-        Line::Release(m) => {
-            return calls::release(arena, control, m as u64);
-        }
-        Line::Resize { mem, n } => {
-            return calls::resize(arena, control, mem as u64, n as u64);
-        }
-        Line::Settle => {
-            return empty_and_join(arena, control);
-        }
-        Line::Other => {
-            return Answer::Done;
-        }
+        Line::Open(_) => calls::open(arena, control, 0, PLAIN),
+        Line::Grant(n) => calls::grant(arena, control, u64::from(n)),
+        Line::Release(m) => calls::release(arena, control, u64::from(m)),
+        Line::Resize { mem, n } => calls::resize(arena, control, u64::from(mem), u64::from(n)),
+        Line::Settle => empty_and_join(arena, control),
+        Line::Other => Ok(Answer::Done),
     }
 }
 
 // The same, on the first n of the bytes that are lent.
-fn call_within(arena: &mut [u8], control: &mut [u8], n: usize, line: Line) -> Answer
+fn call_within(
+    arena: &mut [u8],
+    control: &mut [u8],
+    n: usize,
+    line: Line,
+) -> Result<Answer, Refusal>
     requires { n ≤ length arena.old }
     ensures { after arena.new control.new result ≡ called arena.old control.old n line }
 {
@@ -108,11 +85,7 @@ fn length_of(line: Line, opened: usize) -> usize
 {
     match line {
         Line::Open(n) => n as usize,
-        Line::Grant(_) => opened,
-        Line::Release(_) => opened,
-        Line::Resize { mem: _, n: _ } => opened,
-        Line::Settle => opened,
-        Line::Other => opened,
+        _ => opened,
     }
 }
 
@@ -123,16 +96,13 @@ fn top_after(ended: bool, control: &[u8]) -> u32
     if ended {
         return 0;
     }
-    le::read4(control, 4)
+    le::read::<u32>(control, 4)
 }
 
 fn count(k: u64) -> u64
     ensures { result ≡ counted k }
 {
-    if k < 18446744073709551615 {
-        return k + 1;
-    }
-    k
+    k.saturating_add(1)
 }
 
 // Runs a line that is in its place: the k-th, on an arena of n bytes.
@@ -156,14 +126,14 @@ fn run_placed(
     let ended = script::ends_by(line, x);
     let top = top_after(ended, control);
     let letter = script::letter_of(line);
-    let printed = script_format::put_answer(out, at, letter, x, top);
-    let text = script_reader::no_bytes();
+    let mut page = Page { out, at };
+    script_format::put_answer(&mut page, letter, x, top);
     Log {
-        text,
+        text: script_reader::no_bytes(),
         lines: k,
         opened: n,
         ended,
-        printed,
+        printed: page.at,
     }
 }
 
@@ -177,22 +147,22 @@ fn run_line(log: Log, arena: &mut [u8], control: &mut [u8], out: &mut [u8]) -> L
     ensures within { Within result (log.printed + 86) }
 {
     let k = count(log.lines);
-    let opened = log.opened;
-    let at = log.printed;
-    let read = log.text;
-    let line = script_reader::line_read(read);
+    let line = script_reader::line_read(log.text);
     if script::in_place(k, line) {
-        let n = length_of(line, opened);
-        return run_placed(k, n, line, at, arena, control, out);
+        let n = length_of(line, log.opened);
+        return run_placed(k, n, line, log.printed, arena, control, out);
     }
-    let printed = text::put_question(out, at, k);
-    let text = script_reader::no_bytes();
+    let mut page = Page {
+        out,
+        at: log.printed,
+    };
+    page.question(k);
     Log {
-        text,
+        text: script_reader::no_bytes(),
         lines: k,
-        opened,
         ended: true,
-        printed,
+        printed: page.at,
+        ..log
     }
 }
 
@@ -205,27 +175,15 @@ pub fn feed(log: Log, b: u8, arena: &mut [u8], control: &mut [u8], out: &mut [u8
         ≡ behind (take log.printed out.old) (byte_step b (run_of arena.old control.old log)) }
     ensures within { Within result (log.printed + 86) }
 {
-    let ended = log.ended;
-    let read = log.text;
-    if ended {
-        return Log {
-            text: read,
-            lines: log.lines,
-            opened: log.opened,
-            ended,
-            printed: log.printed,
-        };
+    if log.ended {
+        return log;
     }
     if b == b'\n' {
         return run_line(log, arena, control, out);
     }
-    let text = script_reader::feed(read, b);
     Log {
-        text,
-        lines: log.lines,
-        opened: log.opened,
-        ended,
-        printed: log.printed,
+        text: script_reader::feed(log.text, b),
+        ..log
     }
 }
 
@@ -244,10 +202,8 @@ pub fn feed_piece(
         ≡ behind (take log.printed out.old) (piece_step piece.now (run_of arena.old control.old log)) }
     ensures within { Within result (length out.new) }
 {
-    let mut i = 0;
-    while i < piece.len() {
-        log = feed(log, piece[i], arena, control, out);
-        i += 1;
+    for b in piece {
+        log = feed(log, *b, arena, control, out);
     }
     log
 }
@@ -261,26 +217,8 @@ pub fn finish(log: Log, arena: &mut [u8], control: &mut [u8], out: &mut [u8]) ->
         ≡ behind (take log.printed out.old) (end_step (run_of arena.old control.old log)) }
     ensures within { Within result (log.printed + 86) }
 {
-    let ended = log.ended;
-    let text = log.text;
-    let len = text.len;
-    if ended {
-        return Log {
-            text,
-            lines: log.lines,
-            opened: log.opened,
-            ended,
-            printed: log.printed,
-        };
-    }
-    if len == 0 {
-        return Log {
-            text,
-            lines: log.lines,
-            opened: log.opened,
-            ended,
-            printed: log.printed,
-        };
+    if log.ended || log.text.len == 0 {
+        return log;
     }
     run_line(log, arena, control, out)
 }

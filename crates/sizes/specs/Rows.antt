@@ -1,7 +1,7 @@
 -- The rows one by one, as the code reads them: a turn of the search over row i is a turn of the definition over the rows from i on, and a bin's least size
 -- lies on the first line that has the bin. Assumes nothing.
-use Rattle.std.specs.Prelude.{◌≡◌, refl, Bool, true, false, List, ◌∷◌, ℕ, zero, suc, ◌+◌, ◌-◌, ◌*◌, ◌/◌, ◌≤◌, ◌<◌, ◌^◌, max, leb, get_or, drop}
-use Rattle.std.proofs.Common.{◌∙◌, ap, arith, add-one, drop-cons, leb-true, leb-false}
+use Rattle.std.specs.Prelude.{◌≡◌, refl, Bool, true, false, Option, Some, None, List, ◌∷◌, ℕ, zero, suc, ◌+◌, ◌-◌, ◌*◌, ◌/◌, ◌≤◌, ◌<◌, ◌^◌, max, leb, get_or, drop}
+use Rattle.std.proofs.Common.{sym, ◌∙◌, ap, arith, add-one, drop-cons, leb-true, leb-false}
 use Rattle.std.proofs.Math.Path.{subst⁻¹}
 use Rattle.sizes.specs.declared.bins.Row.{Row}
 use Rattle.sizes.specs.Sizes.{rows, first_line}
@@ -11,13 +11,13 @@ use Rattle.sizes.specs.BinSizes.{least_of, least_of-comes, least_of-is}
 abbrev pub row_at : ℕ → Row
 row_at i = get_or rows i (record { divisor = 0; limit = 0; base = 0 })
 
--- the bin that a line gives; 0, which is no bin, where it does not apply
-abbrev pub bin_on : Row → ℕ → ℕ
-bin_on r s = elim (leb (s / r.divisor) r.limit) [ true ↦ r.base + s / r.divisor | false ↦ 0 ]
+-- the bin that a line gives, where it applies
+abbrev pub bin_on : Row → ℕ → Option ℕ
+bin_on r s = elim (leb (s / r.divisor) r.limit) [ true ↦ Some (r.base + s / r.divisor) | false ↦ None ]
 
--- the least size of bin k on a line that begins at b; 0, which is no size, where the line does not have the bin
-abbrev pub least_on : Row → ℕ → ℕ → ℕ
-least_on r b k = elim (leb k (r.base + r.limit)) [ true ↦ max b (r.divisor * (k - r.base)) | false ↦ 0 ]
+-- the least size of bin k on a line that begins at b, where the line has the bin
+abbrev pub least_on : Row → ℕ → ℕ → Option ℕ
+least_on r b k = elim (leb k (r.base + r.limit)) [ true ↦ Some (max b (r.divisor * (k - r.base))) | false ↦ None ]
 
 rows_at : (i : ℕ) {r : Row} → i < 5 → r ≡ row_at i → drop i rows ≡ r ∷ drop (i + 1) rows
 rows_at i h e = rw (add-one, e) (drop-cons rows i _ h)
@@ -40,26 +40,23 @@ row-bounds i h e = subst⁻¹ RowBounds e (each (λ k. RowBounds (row_at k)) (om
 
 -- ---- the bin: a line that applies ends the search, another leaves it to the lines after
 
-abbrev pick : Bool → ℕ → ℕ → ℕ
-pick t x y = elim t [ true ↦ x | false ↦ y ]
+applies : (t : Bool) (x y b : ℕ) → elim t as (λ _. Option ℕ) [ true ↦ Some x | false ↦ None ] ≡ Some b → elim t as (λ _. ℕ) [ true ↦ x | false ↦ y ] ≡ b
+applies true x y b e = cc
+applies false x y b e = absurd cc
 
-applies : (t : Bool) (x y : ℕ) → 0 < pick t x 0 → pick t x y ≡ pick t x 0
-applies true x y h = refl
-applies false x y h = absurd (omega arith)
+passes : (t : Bool) (x y : ℕ) → elim t as (λ _. Option ℕ) [ true ↦ Some x | false ↦ None ] ≡ None → elim t as (λ _. ℕ) [ true ↦ x | false ↦ y ] ≡ y
+passes true x y e = absurd cc
+passes false x y e = refl
 
-passes : (t : Bool) (x y : ℕ) → 0 < x → pick t x 0 ≡ 0 → pick t x y ≡ y
-passes true x y h e = absurd (omega arith)
-passes false x y h e = refl
-
-pub first_line-at : (i s : ℕ) {r : Row} → i < 5 → r ≡ row_at i → 0 < bin_on r s → first_line (drop i rows) s ≡ bin_on r s
-first_line-at i s {r} h e a =
+pub first_line-at : (i s : ℕ) {r : Row} {b : ℕ} → i < 5 → r ≡ row_at i → bin_on r s ≡ Some b → first_line (drop i rows) s ≡ b
+first_line-at i s {r} {b} h e a =
     ap (λ (rs : List Row). first_line rs s) (rows_at i h e)
-    ∙ applies (leb (s / r.divisor) r.limit) (r.base + s / r.divisor) (first_line (drop (i + 1) rows) s) a
+    ∙ applies (leb (s / r.divisor) r.limit) (r.base + s / r.divisor) (first_line (drop (i + 1) rows) s) b a
 
-pub first_line-after : (i s : ℕ) {r : Row} → i < 5 → r ≡ row_at i → bin_on r s ≡ 0 → first_line (drop i rows) s ≡ first_line (drop (i + 1) rows) s
+pub first_line-after : (i s : ℕ) {r : Row} → i < 5 → r ≡ row_at i → bin_on r s ≡ None → first_line (drop i rows) s ≡ first_line (drop (i + 1) rows) s
 first_line-after i s {r} h e z =
     ap (λ (rs : List Row). first_line rs s) (rows_at i h e)
-    ∙ passes (leb (s / r.divisor) r.limit) (r.base + s / r.divisor) (first_line (drop (i + 1) rows) s) (omega (arith, (row-bounds i h e).1)) z
+    ∙ passes (leb (s / r.divisor) r.limit) (r.base + s / r.divisor) (first_line (drop (i + 1) rows) s) z
 
 -- ---- the least size of a bin: on the first line that has it
 
@@ -73,40 +70,40 @@ abbrev pub Past : ℕ → ℕ → Type 0
 Past zero j = 64 ≤ j
 Past (suc i) j = (row_at i).base + (row_at i).limit < j
 
--- line i, whose row is r: its base is at most j, it begins above 0, and if it has bin j it has the bin's least size
+-- line i, whose row is r: its base is at most j, and if it has bin j it has the bin's least size
 abbrev Line : ℕ → ℕ → Row → Type 0
-Line i j r = (r.base ≤ j) × (0 < begin_of i) × (j ≤ r.base + r.limit → max (begin_of i) (r.divisor * (j - r.base)) ≡ least_of j)
+Line i j r = (r.base ≤ j) × (j ≤ r.base + r.limit → max (begin_of i) (r.divisor * (j - r.base)) ≡ least_of j)
 
 line_at : (i j : ℕ) {r : Row} → i < 5 → r ≡ row_at i → Past i j → Line i j r
 line_at i j h e p =
     let c = least_of-comes j in
     subst⁻¹ (Line i j) e
     (each (λ k. Past k j → Line k j (row_at k))
-    (λ p. (omega arith, omega arith, λ l. least_of-is j _ (omega arith) (omega (arith, c.0, c.1))))
-    (λ p. (omega arith, omega arith, λ l. least_of-is j _ (omega arith) (omega (arith, c.1, c.2))))
-    (λ p. (omega arith, omega arith, λ l. least_of-is j _ (omega arith) (omega (arith, c.2, c.3))))
-    (λ p. (omega arith, omega arith, λ l. least_of-is j _ (omega arith) (omega (arith, c.3, c.4))))
-    (λ p. (omega arith, omega arith, λ l. least_of-is j _ (omega arith) (omega (arith, c.4, c.5))))
+    (λ p. (omega arith, λ l. least_of-is j _ (omega arith) (omega (arith, c.0, c.1))))
+    (λ p. (omega arith, λ l. least_of-is j _ (omega arith) (omega (arith, c.1, c.2))))
+    (λ p. (omega arith, λ l. least_of-is j _ (omega arith) (omega (arith, c.2, c.3))))
+    (λ p. (omega arith, λ l. least_of-is j _ (omega arith) (omega (arith, c.3, c.4))))
+    (λ p. (omega arith, λ l. least_of-is j _ (omega arith) (omega (arith, c.4, c.5))))
     i h p)
 
--- 0 is given exactly where the line does not have the bin
-pick-has : (t : Bool) (k l b d m : ℕ) → leb k l ≡ t → 0 < b → (k ≤ l → max b d ≡ m)
-    → (0 < pick t (max b d) 0 → pick t (max b d) 0 ≡ m) × (pick t (max b d) 0 ≡ 0 → l < k)
-pick-has true k l b d m e p f = (λ _. f (leb-true k l e), λ z. absurd (omega arith))
-pick-has false k l b d m e p f = (λ h. absurd (omega arith), λ _. leb-false k l e)
+-- none is given exactly where the line does not have the bin
+given : (k l b d m v : ℕ) → (t : Bool) → leb k l ≡ t → (k ≤ l → max b d ≡ m) → elim t as (λ _. Option ℕ) [ true ↦ Some (max b d) | false ↦ None ] ≡ Some v → v ≡ m
+given k l b d m v true e f s = let x : max b d ≡ v = cc in sym x ∙ f (leb-true k l e)
+given k l b d m v false e f s = absurd cc
 
-least_on-has : (i j : ℕ) {r : Row} → i < 5 → r ≡ row_at i → Past i j
-    → (0 < least_on r (begin_of i) j → least_on r (begin_of i) j ≡ least_of j) × (least_on r (begin_of i) j ≡ 0 → r.base + r.limit < j)
-least_on-has i j {r} h e p =
-    let q = line_at i j h e p in
-    pick-has (leb j (r.base + r.limit)) j (r.base + r.limit) (begin_of i) (r.divisor * (j - r.base)) (least_of j) refl q.1 q.2
+not-given : (k l x : ℕ) → (t : Bool) → leb k l ≡ t → elim t as (λ _. Option ℕ) [ true ↦ Some x | false ↦ None ] ≡ None → l < k
+not-given k l x true e n = absurd cc
+not-given k l x false e n = leb-false k l e
 
 pub base-at-most : (i j : ℕ) {r : Row} → i < 5 → r ≡ row_at i → Past i j → r.base ≤ j
 base-at-most i j h e p = (line_at i j h e p).0
 
-pub least_on-at : (i j : ℕ) {r : Row} → i < 5 → r ≡ row_at i → Past i j → 0 < least_on r (begin_of i) j → least_on r (begin_of i) j ≡ least_of j
-least_on-at i j h e p = (least_on-has i j h e p).0
+pub least_on-at : (i j : ℕ) {r : Row} {v : ℕ} → i < 5 → r ≡ row_at i → Past i j → least_on r (begin_of i) j ≡ Some v → v ≡ least_of j
+least_on-at i j {r} {v} h e p a =
+    given j (r.base + r.limit) (begin_of i) (r.divisor * (j - r.base)) (least_of j) v (leb j (r.base + r.limit)) refl (line_at i j h e p).1 a
 
-pub least_on-after : (i j : ℕ) {r : Row} → i < 5 → r ≡ row_at i → Past i j → least_on r (begin_of i) j ≡ 0
+pub least_on-after : (i j : ℕ) {r : Row} → i < 5 → r ≡ row_at i → least_on r (begin_of i) j ≡ None
     → (r.divisor * (r.limit + 1) ≡ begin_of (i + 1)) × Past (i + 1) j
-least_on-after i j h e p z = (rw (add-one i, e), rw (add-one i, ← e) ((least_on-has i j h e p).1 z))
+least_on-after i j {r} h e z =
+    let past : r.base + r.limit < j = not-given j (r.base + r.limit) (max (begin_of i) (r.divisor * (j - r.base))) (leb j (r.base + r.limit)) refl z in
+    (rw (add-one i, e), rw (add-one i, ← e) past)

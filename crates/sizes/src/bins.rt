@@ -1,7 +1,7 @@
 // The bin of a chunk size: from the table below 16,384, by document 01's lines from there on; and the least size of a bin. Assumes nothing.
 ghost use Rattle.std.specs.Prelude.{◌≡◌, ◌+◌, ◌*◌, ◌≤◌, ◌<◌, ◌^◌};
 ghost use Rattle.sizes.specs.Sizes.{large_bin, bin_of};
-ghost use Rattle.sizes.specs.Rows.{row_at, bin_on, least_on};
+ghost use Rattle.sizes.specs.Rows.{bin_on, least_on};
 ghost use Rattle.sizes.specs.BinSizes.{least_of};
 
 use crate::limits::{LARGE, LARGE_BIN};
@@ -44,33 +44,24 @@ const ROWS: [Row; 5] = [
     },
 ];
 
-// The rows are read here alone, and held against the definition's.
-fn row_at(i: usize) -> Row
-    requires { i < 5 }
-    ensures { result ≡ row_at i }
-{
-    ROWS[i]
-}
-
-// The bin that a line gives; 0, which is no bin, where it does not apply.
-fn bin_on(row: Row, s: u64) -> u64
+// The bin that a line gives, where it applies.
+fn bin_on(row: Row, s: u64) -> Option<u64>
     requires { (0 < row.divisor) × (row.base + row.limit ≤ 126) }
     ensures { result ≡ bin_on row s }
 {
     let q = s / row.divisor;
-    if q <= row.limit {
-        return row.base + q;
+    if row.limit < q {
+        return None;
     }
-    0
+    Some(row.base + q)
 }
 
 // The bin of a size of 1,024 or more: the first line that applies.
 fn large_bin(s: u64) -> u64
     ensures { result ≡ large_bin s }
 {
-    for i in 0..5 {
-        let bin = bin_on(row_at(i), s);
-        if bin != 0 {
+    for row in ROWS {
+        if let Some(bin) = bin_on(row, s) {
             return bin;
         }
     }
@@ -86,19 +77,15 @@ pub fn bin_of(s: u64) -> usize
     large_bin(s) as usize
 }
 
-// The least size of bin k on a line, from where the line begins; 0, which is no size, where the line does not have the bin.
-fn least_on(row: Row, begins: u64, k: u64) -> u64
+// The least size of bin k on a line, from where the line begins, where the line has the bin.
+fn least_on(row: Row, begins: u64, k: u64) -> Option<u64>
     requires { (row.base + row.limit ≤ 126) × (row.base ≤ k) × (row.divisor * 126 < 2 ^ 64) }
     ensures { result ≡ least_on row begins k }
 {
     if row.base + row.limit < k {
-        return 0;
+        return None;
     }
-    let least = row.divisor * (k - row.base);
-    if least < begins {
-        return begins;
-    }
-    least
+    Some(begins.max(row.divisor * (k - row.base)))
 }
 
 // The least size of bin j: on the first line that has j. A line begins where the one before it ends.
@@ -111,10 +98,8 @@ pub fn least_of_bin(j: usize) -> u64
         return 16 * k;
     }
     let mut begins = LARGE;
-    for i in 0..5 {
-        let row = row_at(i);
-        let least = least_on(row, begins, k);
-        if least != 0 {
+    for row in ROWS {
+        if let Some(least) = least_on(row, begins, k) {
             return least;
         }
         begins = row.divisor * (row.limit + 1);

@@ -6,8 +6,9 @@ mod table; // table.rt: the bins of the sizes below 16,384
 mod bins; // bins.rt: the bin of any size
 mod layout; // layout.rt: which word of the record is what
 mod limits; // limits.rt: document 01's limits
+mod size; // size.rt: the sizes that a request can need
 
-ghost use Rattle.std.specs.Prelude.{◌≡◌, ◌+◌, ◌≤◌, ◌<◌, ◌^◌};
+ghost use Rattle.std.specs.Prelude.{◌≡◌, ◌+◌, ◌≤◌, ◌<◌, ◌^◌, option_map};
 ghost use Rattle.sizes.specs.Sizes.{need, usable, cache_of, fast_of};
 ghost use Rattle.sizes.specs.Needed.{needed_of};
 ghost use Rattle.sizes.specs.SizeWord.{word_of, size_of_word, low_of_word, p_of_word};
@@ -23,22 +24,17 @@ pub use limits::{
     LARGE_BIN, LAST_BIN, LEAST_ARENA, LEAST_CHUNK, MIXED, MOST_ARENA, MOST_CACHED, MOST_FAST,
     MOST_REQUEST, NEWEST, NONE32, NONE64, PLAIN, RECORD_BYTES, RECORD_WORDS, UNSORTED,
 };
+pub use size::Size;
 
-// What a request needs: a chunk of a size; or it is too large, and refused with number 2.
-#[derive(Clone, Copy)]
-pub enum Needed {
-    Size(u64),
-    TooLarge,
-}
-
+// What a request needs: a chunk of that size; none if it is too large, and refused with number 2.
 // The limit is tested before 23 is added, so that no request overflows.
-pub fn need(n: u64) -> Needed
-    ensures { result ≡ needed_of n }
+pub fn need(n: u64) -> Option<Size>
+    ensures { option_map (λ (s : Size). s.bytes) result ≡ needed_of n }
 {
     if MOST_REQUEST < n {
-        return Needed::TooLarge;
+        return None;
     }
-    Needed::Size(rounded(n))
+    Some(Size { bytes: rounded(n) })
 }
 
 fn rounded(n: u64) -> u64

@@ -48,9 +48,11 @@ pub const RECORD_WORDS: usize = 396;
 pub const RECORD_BYTES: usize = 1584;
 
 // The newest version of the rules, and of an image.
+// Kept: versions are numbers, since later ones are asked for by order.
 pub const NEWEST: u32 = 4;
 
 // The editions: how the forward links of cache and fast lists are stored, as they are or mixed.
+// Kept: numbers, since heap_open takes any number and the record's word may have any (the C interface, `edition?`).
 pub const PLAIN: u32 = 1;
 
 pub const MIXED: u32 = 2;

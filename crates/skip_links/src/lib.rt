@@ -58,6 +58,7 @@ fn write_member(a: &mut [u8], q: Chunk, c: Chunk) -> Chunk
 }
 
 // The ring of the list that begins at x is written anew.
+// Kept: apart from ring_stands, since one writes the arena and the other reads it and may stop (d).
 pub fn write_ring(a: &mut [u8], x: Link)
     requires { LargeWalked (arena_words a.old) x.0 }
     ensures { (l : List ℕ) → LargeWalk (arena_words a.old) x.0 l

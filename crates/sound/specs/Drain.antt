@@ -1,6 +1,6 @@
 -- Stacks are emptied: drain, drains and consolidate keep a sound heap, leave the lists that they empty empty, and every loose chunk as it was. By induction
 -- along the list that is emptied; t is how a chunk is taken, f what is done with it. Assumes nothing.
-use Rattle.std.specs.Prelude.{◌≡◌, refl, ◌⊎◌}
+use Rattle.std.specs.Prelude.{◌≡◌, refl, ◌⊎◌, Option}
 use Rattle.std.proofs.Math.Path.{ap}
 use Rattle.std.proofs.Common.{◌∙◌, arith, get_or-set_same, get_or-set_other}
 use mathlib.Core.List.{List, [], ◌∷◌}
@@ -17,7 +17,6 @@ use Rattle.sound.specs.Stacks.{pop-ends, popped-loose, take_cache-ends}
 use Rattle.sound.specs.Moves.{nil, one, any, listed-not, pop-moved, take_cache-moved}
 use Rattle.sound.specs.Leaves.{Leaves, leaves-weaken, leaves_none, leaves-then, Still, Cached, still-here, still-then}
 use Rattle.sound.specs.JoinLeaves.{Every, join-leaves}
-use Rattle.machine.specs.declared.Got.{Got}
 
 -- ---- the head c of stack k, in front of l, is taken: it is loose then, and the other stacks are as they were
 pub record Taken (h : Heap) (k c : ℕ) (l : List ℕ) (g : Heap) : Type 0 where
@@ -44,7 +43,7 @@ module _ (h : Heap) (w : List ℕ) (k c : ℕ) (l : List ℕ) (g : Good h) (m : 
       record { mem = P.mem; now = taken (omega arith) P.now; moved = take_cache-moved h k c l g.shape (omega arith) e }
 
 -- ---- t takes the head of a stack of M; f, done with any loose chunk, leaves the stacks of M as they are
-module _ (t : ℕ → Heap → Ran Got) (f : ℕ → Heap → Ran ℕ) (M : ℕ → Type 0)
+module _ (t : ℕ → Heap → Ran (Option ℕ)) (f : ℕ → Heap → Ran ℕ) (M : ℕ → Type 0)
     (T : (h : Heap) (w : List ℕ) (k c : ℕ) (l : List ℕ) → Good h → Mem h w → stack h k ≡ c ∷ l → k < 74 → M k → Leaves h w (t k h) (λ a g. Taken h k c l g) (any (one c)) nil)
     (F : (h : Heap) (w : List ℕ) (c : ℕ) → Good h → Mem h w → Loose h c → Leaves h w (f c h) (λ a g. Good g × Still M h g) (any nil) (one c)) where
   pub drain-leaves : (k : ℕ) → k < 74 → M k → (l : List ℕ) (h : Heap) (w : List ℕ) → Good h → Mem h w → stack h k ≡ l

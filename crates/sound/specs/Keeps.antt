@@ -1,6 +1,6 @@
 -- Every step keeps a sound heap and its words: one law for each step of release, emptying, joining, grant and resize, from any sound heap. What was shown of each step with
 -- its answer and its loose chunks is read off here. Assumes nothing.
-use Rattle.std.specs.Prelude.{◌≡◌, refl, ◌⊎◌, List, [], ◌∷◌, Bool, false, ℕ, ◌+◌, ◌*◌, ◌%◌, ◌≤◌, ◌<◌, ◌^◌, length}
+use Rattle.std.specs.Prelude.{◌≡◌, refl, ◌⊎◌, List, [], ◌∷◌, Bool, false, ℕ, ◌+◌, ◌*◌, ◌%◌, ◌≤◌, ◌<◌, ◌^◌, length, Option, Some, None}
 use Rattle.sizes.specs.Limits.{plain, mixed}
 use Rattle.machine.specs.Lists.{cnt}
 use Rattle.machine.specs.Heap.{Heap, stack, bin, size_of, opened, record_of}
@@ -23,11 +23,11 @@ use Rattle.sound.specs.Large.{step6-leaves, step7-leaves, step9-leaves}
 use Rattle.sound.specs.Grant.{pass-leaves, again-leaves, from4-leaves, seek-leaves, grant-leaves}
 use Rattle.sound.specs.Resize.{resize-resized}
 use Rattle.sound.specs.Opened.{opened-ends}
-use Rattle.machine.specs.declared.{Got.Got, Got.TheVariants.At, Got.TheVariants.Nothing, Turn.Turn}
+use Rattle.machine.specs.declared.{Turn.Turn}
 use Rattle.machine.specs.declared.Turn.TheVariants as T
 
 -- ---- stacks emptied, their heads taken by t, with anything done to each chunk that keeps a sound heap and the stacks of M
-module _ (t : ℕ → Heap → Ran Got) (f : ℕ → Heap → Ran ℕ) (M : ℕ → Type 0)
+module _ (t : ℕ → Heap → Ran (Option ℕ)) (f : ℕ → Heap → Ran ℕ) (M : ℕ → Type 0)
     (T : (h : Heap) (w : List ℕ) (k c : ℕ) (l : List ℕ) → Good h → Mem h w → stack h k ≡ c ∷ l → k < 74 → M k → Leaves h w (t k h) (λ a g. Taken h k c l g) (any (one c)) nil)
     (F : (h : Heap) (w : List ℕ) (c : ℕ) → Good h → Mem h w → Loose h c → Leaves h w (f c h) (λ a g. Good g × Still M h g) (any nil) (one c)) where
   pub drain-ends : (k : ℕ) → k < 74 → M k → (h : Heap) (w : List ℕ) → Good h → Mem h w → Ends (drain t f k (stack h k) h) w Good
@@ -54,9 +54,9 @@ pub joining-ends : (h : Heap) (w : List ℕ) → Good h → Mem h w → Ends (jo
 joining-ends h w g m = leaves-ends (joining-leaves h w g m) (λ a n p. p.good)
 
 -- ---- grant
-found-good : (b : ℕ) (h : Heap) (x : Got) (g : Heap) → Found b h x g → Good g
-found-good b h (At c) g p = p.0
-found-good b h Nothing g p = p.0
+found-good : (b : ℕ) (h : Heap) (x : Option ℕ) (g : Heap) → Found b h x g → Good g
+found-good b h (Some c) g p = p.0
+found-good b h None g p = p.0
 
 turned-good : (b : ℕ) (h : Heap) (x : Turn) (g : Heap) → Turned b h x g → Good g
 turned-good b h (T.Granted c) g p = p.0
@@ -68,7 +68,7 @@ pub step4-ends : (b : ℕ) (h : Heap) (w : List ℕ) → Good h → Mem h w → 
 step4-ends b h w g m = leaves-ends (step4-leaves b h w g m) (λ a n p. p.0)
 
 module _ (b : ℕ) (b16 : b % 16 ≡ 0) (b32 : 32 ≤ b) (h : Heap) (w : List ℕ) (g : Good h) (m : Mem h w) where
-  found-ends : (r : Ran Got) → Leaves h w r (Found b h) gave nil → Ends r w Good
+  found-ends : (r : Ran (Option ℕ)) → Leaves h w r (Found b h) gave nil → Ends r w Good
   found-ends r l = leaves-ends l (found-good b h)
 
   pub step1-ends : Ends (step1 b h) w Good

@@ -1,6 +1,6 @@
 -- Steps 6, 7 and 9 of grant: the best fit in the own bin, the first bin above, the top. Each keeps a sound heap; what it gives is at least b and new among
 -- the loose. The found chunk tiled by the list's tests, or because bins rise with sizes. Assumes nothing.
-use Rattle.std.specs.Prelude.{◌≡◌, refl, List, [], ◌∷◌, ◌⊎◌, Bool, true, eqb, ltb, leb}
+use Rattle.std.specs.Prelude.{◌≡◌, refl, List, [], ◌∷◌, ◌⊎◌, Bool, true, eqb, ltb, leb, Option, Some, None}
 use Rattle.std.proofs.Common.{sym, ap, ◌∙◌, subst, inl, inr, not-suc-le-zero, arith, eqb-true, ltb-false, leb-true}
 use Rattle.std.proofs.Math.Logic.{⊎_elim}
 use Rattle.std.proofs.Math.Bool.{false}
@@ -20,7 +20,6 @@ use Rattle.sound.specs.Moves.{nil, cut-top-moved}
 use Rattle.sound.specs.Leaves.{Leaves, leaves-if, leaves-got, gave, Found, found_nothing}
 use Rattle.sound.specs.Take.{step8-leaves}
 use Rattle.sound.specs.Small.{some-has}
-use Rattle.machine.specs.declared.{Got.Got, Got.TheVariants.At, Got.TheVariants.Nothing}
 
 -- ---- 6. the smallest that tiled
 least_fit-enough : (f : ℕ → ℕ) (b : ℕ) (l : List ℕ) → (least_fit f b l ≡ 0) ⊎ (b ≤ least_fit f b l)
@@ -50,15 +49,15 @@ equals-has f z (x ∷ l) c m = go (λ k. equals-has f z l c k) (eqb (f x) z) ref
         (eq? c x)
     go r false e m = let k = r m in (omega (arith, k.0), k.1)
 
-second-has : (l : List ℕ) (c : ℕ) → second l ≡ At c → 1 ≤ cnt c l
+second-has : (l : List ℕ) (c : ℕ) → second l ≡ Some c → 1 ≤ cnt c l
 second-has [] c e = absurd (let z : ◌≡◌ {A = ℕ} 0 1 = cc in omega arith)
 second-has (x ∷ []) c e = let q : x ≡ c = cc in rw q (cnt-here c [])
 second-has (x ∷ y ∷ l) c e = let q : y ≡ c = cc in rw q (cnt-there c x (c ∷ l) (cnt-here c l))
 
-pub fit_has : (f : ℕ → ℕ) (b : ℕ) (l : List ℕ) (c : ℕ) → fit f b l ≡ At c → (1 ≤ cnt c l) × (b ≤ f c)
+pub fit_has : (f : ℕ → ℕ) (b : ℕ) (l : List ℕ) (c : ℕ) → fit f b l ≡ Some c → (1 ≤ cnt c l) × (b ≤ f c)
 fit_has f b l c e = go (eqb (least_fit f b l) 0) refl e
   where
-    go : (t : Bool) → eqb (least_fit f b l) 0 ≡ t → ◌≡◌ {A = Got} (elim t [ true ↦ Nothing | false ↦ second (equals f (least_fit f b l) l) ]) (At c)
+    go : (t : Bool) → eqb (least_fit f b l) 0 ≡ t → ◌≡◌ {A = Option ℕ} (elim t [ true ↦ None | false ↦ second (equals f (least_fit f b l) l) ]) (Some c)
         → (1 ≤ cnt c l) × (b ≤ f c)
     go true q e = absurd (let z : ◌≡◌ {A = ℕ} 0 1 = cc in omega arith)
     go false q e =
@@ -66,12 +65,12 @@ fit_has f b l c e = go (eqb (least_fit f b l) 0) refl e
         (k.0, ⊎_elim (λ z. absurd (eqb-false (least_fit f b l) 0 q z)) (λ z. omega (arith, k.1)) (least_fit-enough f b l))
 
 -- ---- 7. the first non-empty bin from j on
-pub first_bin-has : (n j : ℕ) (h : Heap) (k : ℕ) → first_bin n j h ≡ At k → (some? (bin h k) ≡ true) × (j ≤ k)
+pub first_bin-has : (n j : ℕ) (h : Heap) (k : ℕ) → first_bin n j h ≡ Some k → (some? (bin h k) ≡ true) × (j ≤ k)
 first_bin-has zero j h k e = absurd (let z : ◌≡◌ {A = ℕ} 0 1 = cc in omega arith)
 first_bin-has (suc n) j h k e = go (λ q. first_bin-has n (suc j) h k q) (some? (bin h j)) refl e
   where
-    go : (first_bin n (suc j) h ≡ At k → (some? (bin h k) ≡ true) × (suc j ≤ k)) → (t : Bool) → some? (bin h j) ≡ t
-        → ◌≡◌ {A = Got} (elim t [ true ↦ At j | false ↦ first_bin n (suc j) h ]) (At k)
+    go : (first_bin n (suc j) h ≡ Some k → (some? (bin h k) ≡ true) × (suc j ≤ k)) → (t : Bool) → some? (bin h j) ≡ t
+        → ◌≡◌ {A = Option ℕ} (elim t [ true ↦ Some j | false ↦ first_bin n (suc j) h ]) (Some k)
         → (some? (bin h k) ≡ true) × (j ≤ k)
     go r true u e = let q : j ≡ k = cc in (ap (λ (i : ℕ). some? (bin h i)) (sym q) ∙ u, omega arith)
     go r false u e = let z = r e in (z.0, omega (arith, z.1))

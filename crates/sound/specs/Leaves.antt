@@ -1,6 +1,6 @@
 -- A whole step as it leaves things: the words are the heap's, Q holds of answer and heap, and the loose chunks moved by counts. How such steps follow
 -- one another, also where the second waits on the first's answer. Assumes nothing.
-use Rattle.std.specs.Prelude.{◌≡◌, refl, List, [], Bool, true, false, ℕ, ◌+◌, ◌≤◌, ◌<◌}
+use Rattle.std.specs.Prelude.{◌≡◌, refl, List, [], Bool, true, false, ℕ, ◌+◌, ◌≤◌, ◌<◌, Option, Some, None}
 use Rattle.std.proofs.Common.{sym, ◌∙◌, subst, arith}
 use Rattle.machine.specs.Heap.{Heap, stack, size_of}
 use Rattle.machine.specs.Writes.{apply, Ran, heap_of, writes, giving, more, ◌>>=◌, nothing, ◌or_else◌, ran}
@@ -8,7 +8,6 @@ use Rattle.sound.specs.Relation.{Mem, Loose, Good}
 use Rattle.sound.specs.Frames.{apply-append}
 use Rattle.sound.specs.Ends.{Ends}
 use Rattle.sound.specs.Moves.{answer_of, nil, one, any, Moved, moved_more, moved-giving, moved_none}
-use Rattle.machine.specs.declared.{Got.Got, Got.TheVariants.At, Got.TheVariants.Nothing}
 
 pub record Leaves {A : Type 0} (h : Heap) (w : List ℕ) (r : Ran A) (Q : A → Heap → Type 0) (i : A → ℕ → ℕ) (o : ℕ → ℕ) : Type 0 where
   pub mem : Mem (heap_of r) (apply (writes r) w)
@@ -37,10 +36,10 @@ pub leaves-if : {A : Type 0} {h : Heap} {w : List ℕ} (t : Bool) {x y : Ran A} 
 leaves-if true f g = f refl
 leaves-if false f g = g refl
 
-pub leaves-got : {A : Type 0} {h : Heap} {w : List ℕ} (t : Got) {x : ℕ → Ran A} {y : Ran A} {Q : A → Heap → Type 0} {i : A → ℕ → ℕ} {o : ℕ → ℕ}
-    → ((c : ℕ) → t ≡ At c → Leaves h w (x c) Q i o) → (t ≡ Nothing → Leaves h w y Q i o) → Leaves h w (elim t [ At c ↦ x c | Nothing ↦ y ]) Q i o
-leaves-got (At c) f g = f c refl
-leaves-got Nothing f g = g refl
+pub leaves-got : {A : Type 0} {h : Heap} {w : List ℕ} (t : Option ℕ) {x : ℕ → Ran A} {y : Ran A} {Q : A → Heap → Type 0} {i : A → ℕ → ℕ} {o : ℕ → ℕ}
+    → ((c : ℕ) → t ≡ Some c → Leaves h w (x c) Q i o) → (t ≡ None → Leaves h w y Q i o) → Leaves h w (elim t [ Some c ↦ x c | None ↦ y ]) Q i o
+leaves-got (Some c) f g = f c refl
+leaves-got None f g = g refl
 
 -- nothing is done
 pub leaves_none : {A : Type 0} {h : Heap} {w : List ℕ} {a : A} {Q : A → Heap → Type 0} → Mem h w → Q a h → Leaves h w (ran h [] a) Q (any nil) nil
@@ -88,9 +87,9 @@ leaves-widen {r = r} l e c = record {
 }
 
 -- ---- a step of grant: what it gives is new among the loose
-abbrev pub gave : Got → ℕ → ℕ
-gave (At c) x = one c x
-gave Nothing x = 0
+abbrev pub gave : Option ℕ → ℕ → ℕ
+gave (Some c) x = one c x
+gave None x = 0
 
 -- the stacks of M and the last remainder are as they were
 pub record Still (M : ℕ → Type 0) (h g : Heap) : Type 0 where
@@ -101,9 +100,9 @@ abbrev pub Cached : ℕ → Type 0
 Cached k = k < 64
 
 -- what a step of grant for b leaves: with a chunk, one of at least b; without, the cache lists and the last remainder as they were
-abbrev pub Found : ℕ → Heap → Got → Heap → Type 0
-Found b h (At c) g = Good g × (b ≤ size_of g c)
-Found b h Nothing g = Good g × Still Cached h g
+abbrev pub Found : ℕ → Heap → Option ℕ → Heap → Type 0
+Found b h (Some c) g = Good g × (b ≤ size_of g c)
+Found b h None g = Good g × Still Cached h g
 
 pub still-here : (M : ℕ → Type 0) (h : Heap) → Still M h h
 still-here M h = record { lists = λ k i. refl; remainder = refl }
@@ -111,19 +110,19 @@ still-here M h = record { lists = λ k i. refl; remainder = refl }
 pub still-then : (M : ℕ → Type 0) (h g k : Heap) → Still M h g → Still M g k → Still M h k
 still-then M h g k s t = record { lists = λ i m. t.lists i m ∙ s.lists i m; remainder = t.remainder ∙ s.remainder }
 
-found_after : (b : ℕ) (h g : Heap) (a : Got) (k : Heap) → Still Cached h g → Found b g a k → Found b h a k
-found_after b h g (At c) k s f = f
-found_after b h g Nothing k s f = (f.0, still-then Cached h g k s f.1)
+found_after : (b : ℕ) (h g : Heap) (a : Option ℕ) (k : Heap) → Still Cached h g → Found b g a k → Found b h a k
+found_after b h g (Some c) k s f = f
+found_after b h g None k s f = (f.0, still-then Cached h g k s f.1)
 
-pub found-then : {A : Type 0} {b : ℕ} {h : Heap} {w : List ℕ} {r : Ran A} (f : Heap → Ran Got) → Leaves h w r (λ a g. Good g × Still Cached h g) (any nil) nil
+pub found-then : {A : Type 0} {b : ℕ} {h : Heap} {w : List ℕ} {r : Ran A} (f : Heap → Ran (Option ℕ)) → Leaves h w r (λ a g. Good g × Still Cached h g) (any nil) nil
     → ((g : Heap) (v : List ℕ) → Good g → Mem g v → Leaves g v (f g) (Found b g) gave nil) → Leaves h w (r >>= f) (Found b h) gave nil
 found-then {b = b} {h = h} f l k =
     leaves-then f l (λ g v m p. leaves-weaken (k g v p.0 m) (λ a n q. found_after b h g a n p.1 q)) (λ b x. refl) (λ x lo z. (refl, refl))
 
-pub found-else : {b : ℕ} {h : Heap} {w : List ℕ} {r : Ran Got} (f : Heap → Ran Got) → Leaves h w r (Found b h) gave nil
+pub found-else : {b : ℕ} {h : Heap} {w : List ℕ} {r : Ran (Option ℕ)} (f : Heap → Ran (Option ℕ)) → Leaves h w r (Found b h) gave nil
     → ((g : Heap) (v : List ℕ) → Good g → Mem g v → Leaves g v (f g) (Found b g) gave nil) → Leaves h w (r or_else f) (Found b h) gave nil
-found-else {r = ran h₁ ws (At c)} f l k = l
-found-else {b} {h} {w} {r = ran h₁ ws Nothing} f l k =
+found-else {r = ran h₁ ws (Some c)} f l k = l
+found-else {b} {h} {w} {r = ran h₁ ws None} f l k =
     leaves-next f l.moved (leaves-weaken (k h₁ (apply ws w) l.now.0 l.mem) (λ a n q. found_after b h h₁ a n l.now.1 q)) (λ b x. refl)
     (λ x lo z. (refl, refl))
 

@@ -1,7 +1,7 @@
 -- Live blocks: what release, grant and resize do to the loose chunks. Every other loose chunk stays loose, of its size, and none of its usable words
 -- is written; release takes its chunk away, grant gives one that was not loose before, and resize does both or neither. Read off the counts of each step.
 -- Assumes nothing.
-use Rattle.std.specs.Prelude.{◌≡◌, refl, List, true, ℕ, ◌+◌, ◌/◌, ◌%◌, ◌≤◌, eqb, ltb, get_or}
+use Rattle.std.specs.Prelude.{◌≡◌, refl, List, true, ℕ, ◌+◌, ◌/◌, ◌%◌, ◌≤◌, eqb, ltb, get_or, Option, Some, None}
 use Rattle.std.proofs.Common.{sym, ap, ◌∙◌, subst, ⊎_elim, arith, eq-eqb, eqb-true, lt-ltb, ltb-true}
 use Rattle.machine.specs.Lists.{both, cnt}
 use Rattle.machine.specs.Count.{eq?, ind-same, ind-other}
@@ -23,7 +23,6 @@ use Rattle.sound.specs.Joining.{Merged, joining-leaves}
 use Rattle.sound.specs.Grant.{grant-leaves}
 use Rattle.sound.specs.Below.{OwnP}
 use Rattle.sound.specs.Resize.{Resized, standing, resize-resized}
-use Rattle.machine.specs.declared.{Got.Got, Got.TheVariants.At, Got.TheVariants.Nothing}
 
 -- ---- live, as release asks it, is loose
 pub live-loose : (h : Heap) (c : ℕ) → live? h c ≡ true → Loose h c
@@ -80,13 +79,13 @@ moved-stays h r m = record {
 }
 
 -- ---- all stay, and what is given comes
-pub record Gives (b : ℕ) (h : Heap) (r : Ran Got) : Type 0 where
+pub record Gives (b : ℕ) (h : Heap) (r : Ran (Option ℕ)) : Type 0 where
   pub tame : Tame (λ x. Unit {0}) h r
-  pub given : (c : ℕ) → answer_of r ≡ At c → Loose (heap_of r) c × (b ≤ size_of (heap_of r) c) × (Loose h c → ⊥)
-  pub only : (x : ℕ) → (answer_of r ≡ At x → ⊥) → Loose (heap_of r) x → Loose h x
+  pub given : (c : ℕ) → answer_of r ≡ Some c → Loose (heap_of r) c × (b ≤ size_of (heap_of r) c) × (Loose h c → ⊥)
+  pub only : (x : ℕ) → (answer_of r ≡ Some x → ⊥) → Loose (heap_of r) x → Loose h x
 
-found-gives : (b : ℕ) (h : Heap) (w : List ℕ) (r : Ran Got) → Shape h → Leaves h w r (Found b h) gave nil → Gives b h r
-found-gives b h w (ran g ws (At c)) s l = record {
+found-gives : (b : ℕ) (h : Heap) (w : List ℕ) (r : Ran (Option ℕ)) → Shape h → Leaves h w r (Found b h) gave nil → Gives b h r
+found-gives b h w (ran g ws (Some c)) s l = record {
   tame = moved-tame (λ x y. refl) l.moved;
   given = λ d e.
       let q : c ≡ d = cc in
@@ -96,9 +95,9 @@ found-gives b h w (ran g ws (At c)) s l = record {
         l.now.1,
         (λ lo. omega (arith, n, ind-same c, lo, l.now.0.shape.own c, starts-once g.tiles 0 c (tiled-tiles g l.now.0.shape))),
       );
-  only = λ x e lo. omega (arith, l.moved.count x, ind-other x c (λ q. e (ap At (sym q))));
+  only = λ x e lo. omega (arith, l.moved.count x, ind-other x c (λ q. e (ap Some (sym q))));
 }
-found-gives b h w (ran g ws Nothing) s l = record {
+found-gives b h w (ran g ws None) s l = record {
   tame = moved-tame (λ x y. refl) l.moved;
   given = λ d e. absurd (let z : ◌≡◌ {A = ℕ} 0 1 = cc in omega arith);
   only = λ x e lo. omega (arith, l.moved.count x);
@@ -106,17 +105,17 @@ found-gives b h w (ran g ws Nothing) s l = record {
 
 -- ---- all but c stay; refused, c stays too; else the block that is answered is loose, and has of c's usable words all that it has room for. It is c, or c goes
 -- and it comes
-pub record Resizes (c b : ℕ) (h : Heap) (w : List ℕ) (r : Ran Got) : Type 0 where
+pub record Resizes (c b : ℕ) (h : Heap) (w : List ℕ) (r : Ran (Option ℕ)) : Type 0 where
   pub tame : Tame (But c) h r
-  pub refused : answer_of r ≡ Nothing → Stays h r
-  pub given : (d : ℕ) → answer_of r ≡ At d → Loose (heap_of r) d × (b ≤ size_of (heap_of r) d)
-  pub words : (d : ℕ) → answer_of r ≡ At d → (i : ℕ) → 2 ≤ i → i ≤ size_of h c / 8 → i ≤ size_of (heap_of r) d / 8
+  pub refused : answer_of r ≡ None → Stays h r
+  pub given : (d : ℕ) → answer_of r ≡ Some d → Loose (heap_of r) d × (b ≤ size_of (heap_of r) d)
+  pub words : (d : ℕ) → answer_of r ≡ Some d → (i : ℕ) → 2 ≤ i → i ≤ size_of h c / 8 → i ≤ size_of (heap_of r) d / 8
       → get_or (apply (writes r) w) (d / 8 + i) 0 ≡ get_or w (c / 8 + i) 0
-  pub moves : (d : ℕ) → (d ≡ c → ⊥) → answer_of r ≡ At d → (Loose (heap_of r) c → ⊥) × (Loose h d → ⊥)
-  pub only : (x : ℕ) → (answer_of r ≡ At x → ⊥) → Loose (heap_of r) x → Loose h x
+  pub moves : (d : ℕ) → (d ≡ c → ⊥) → answer_of r ≡ Some d → (Loose (heap_of r) c → ⊥) × (Loose h d → ⊥)
+  pub only : (x : ℕ) → (answer_of r ≡ Some x → ⊥) → Loose (heap_of r) x → Loose h x
 
-resized-resizes : (c b : ℕ) (k h : Heap) (w : List ℕ) (r : Ran Got) → Shape h → Loose h c → Resized c b k h w r → Resizes c b h w r
-resized-resizes c b k h w (ran g ws (At e)) s lc R =
+resized-resizes : (c b : ℕ) (k h : Heap) (w : List ℕ) (r : Ran (Option ℕ)) → Shape h → Loose h c → Resized c b k h w r → Resizes c b h w r
+resized-resizes c b k h w (ran g ws (Some e)) s lc R =
     let L = R.leaves in
     let once : (x : ℕ) → cnt x (starts g) ≤ 1 = λ x. starts-once g.tiles 0 x (tiled-tiles g L.now.0.shape) in
     record {
@@ -136,13 +135,13 @@ resized-resizes c b k h w (ran g ws (At e)) s lc R =
         (λ lo. omega (arith, L.moved.count c, ind-same c, ind-other c e (λ y. n (sym (y ∙ p))), once c, lo, lc, starts-once h.tiles 0 c (tiled-tiles h s))),
         λ lo. omega (arith, L.moved.count d, ap (λ (y : ℕ). one y d) p, ind-same d, ind-other d c n, lo, once d, L.now.0.shape.own d),
       );
-      only = λ x q lo. omega (arith, L.moved.count x, ind-other x e (λ y. q (ap At (sym y))));
+      only = λ x q lo. omega (arith, L.moved.count x, ind-other x e (λ y. q (ap Some (sym y))));
     }
-resized-resizes c b k h w (ran g ws Nothing) s lc R =
+resized-resizes c b k h w (ran g ws None) s lc R =
     let L = R.leaves in
     record {
       tame = moved-tame (λ x y. ind-other x c y) L.moved;
-      refused = λ q. moved-stays h (ran g ws Nothing) (R.refused refl);
+      refused = λ q. moved-stays h (ran g ws None) (R.refused refl);
       given = λ d q. absurd (let z : ◌≡◌ {A = ℕ} 0 1 = cc in omega arith);
       words = λ d q. absurd (let z : ◌≡◌ {A = ℕ} 0 1 = cc in omega arith);
       moves = λ d n q. absurd (let z : ◌≡◌ {A = ℕ} 0 1 = cc in omega arith);
@@ -160,18 +159,18 @@ pub resize-resizes : (b : ℕ) → b % 16 ≡ 0 → 32 ≤ b → (h : Heap) (w :
 resize-resizes b b16 b32 h w g m c lo = resized-resizes c b (standing c b h) h w (resize c b h) g.shape lo (resize-resized h w c b g m lo b16 b32)
 
 -- not moved, it keeps its own P as it stands, unless the release of its rest has the fast chunks joined
-pub resize-own-p : (b : ℕ) → b % 16 ≡ 0 → 32 ≤ b → (h : Heap) (w : List ℕ) → Good h → Mem h w → (c : ℕ) → Loose h c → answer_of (resize c b h) ≡ At c
+pub resize-own-p : (b : ℕ) → b % 16 ≡ 0 → 32 ≤ b → (h : Heap) (w : List ℕ) → Good h → Mem h w → (c : ℕ) → Loose h c → answer_of (resize c b h) ≡ Some c
     → OwnP c (p_of (standing c b h) c) (heap_of (resize c b h))
 resize-own-p b b16 b32 h w g m c lo = (resize-resized h w c b g m lo b16 b32).own
 
 -- ---- a refused grant, and a refused resize, leaves the cache lists and the last remainder as they were
-pub grant-refused : (b : ℕ) → b % 16 ≡ 0 → 32 ≤ b → (h : Heap) (w : List ℕ) → Good h → Mem h w → answer_of (grant b h) ≡ Nothing → Still Cached h (heap_of (grant b h))
-grant-refused b b16 b32 h w g m e = (subst (λ (x : Got). Found b h x (heap_of (grant b h))) e (grant-leaves b b16 b32 h w g m).now).1
+pub grant-refused : (b : ℕ) → b % 16 ≡ 0 → 32 ≤ b → (h : Heap) (w : List ℕ) → Good h → Mem h w → answer_of (grant b h) ≡ None → Still Cached h (heap_of (grant b h))
+grant-refused b b16 b32 h w g m e = (subst (λ (x : Option ℕ). Found b h x (heap_of (grant b h))) e (grant-leaves b b16 b32 h w g m).now).1
 
-pub resize-refused : (b : ℕ) → b % 16 ≡ 0 → 32 ≤ b → (h : Heap) (w : List ℕ) → Good h → Mem h w → (c : ℕ) → Loose h c → answer_of (resize c b h) ≡ Nothing
+pub resize-refused : (b : ℕ) → b % 16 ≡ 0 → 32 ≤ b → (h : Heap) (w : List ℕ) → Good h → Mem h w → (c : ℕ) → Loose h c → answer_of (resize c b h) ≡ None
     → Still Cached h (heap_of (resize c b h))
 resize-refused b b16 b32 h w g m c lo e =
-    (subst (λ (x : Got). Found b h x (heap_of (resize c b h))) e (resize-resized h w c b g m lo b16 b32).leaves.now).1
+    (subst (λ (x : Option ℕ). Found b h x (heap_of (resize c b h))) e (resize-resized h w c b g m lo b16 b32).leaves.now).1
 
 -- ---- consolidation leaves every fast list empty, and the cache lists as they were
 pub consolidate-empties : (h : Heap) (w : List ℕ) → Good h → Mem h w → Consolidated h (heap_of (consolidate h))

@@ -1,6 +1,6 @@
 -- Resize: from any sound heap and any live block the heap stays sound; every other live block stays as it is; the block answered, or the old one where it is
 -- refused, has of the old one's usable words all that it has room for. By the ways through the tests. Assumes nothing.
-use Rattle.std.specs.Prelude.{◌≡◌, refl, List, ◌++◌, Bool, true, false, ℕ, ◌+◌, ◌-◌, ◌*◌, ◌/◌, ◌%◌, ◌≤◌, eqb, ltb, leb, get_or}
+use Rattle.std.specs.Prelude.{◌≡◌, refl, List, ◌++◌, Bool, true, false, ℕ, ◌+◌, ◌-◌, ◌*◌, ◌/◌, ◌%◌, ◌≤◌, eqb, ltb, leb, get_or, Option, Some, None}
 use Rattle.std.proofs.Common.{sym, ap, ◌∙◌, subst, arith, eqb-true, ltb-true, leb-true, leb-false}
 use Rattle.machine.specs.Lists.{both}
 use Rattle.machine.specs.Count.{ind-same, ind-other}
@@ -10,7 +10,6 @@ use Rattle.machine.specs.Primitives.{unlink, widen, grow_top}
 use Rattle.machine.specs.Release.{release}
 use Rattle.machine.specs.Grant.{seek}
 use Rattle.machine.specs.Resize.{finish, copies, moved, resize}
-use Rattle.machine.specs.declared.{Got.Got, Got.TheVariants.At, Got.TheVariants.Nothing}
 use Rattle.sound.specs.Relation.{Mem, Loose, Good}
 use Rattle.sound.specs.Tiles.{starts-once}
 use Rattle.sound.specs.Frames.{apply-append}
@@ -26,40 +25,40 @@ use Rattle.sound.specs.Finish.{InPlace, in-place-next}
 use Rattle.sound.specs.Widen.{joined-in-place, stay-in-place, grow-in-place, behind-in-place}
 
 -- ---- where the block is after it: what is answered, or where it was
-abbrev pub now_at : ℕ → Got → ℕ
-now_at c (At d) = d
-now_at c Nothing = c
+abbrev pub now_at : ℕ → Option ℕ → ℕ
+now_at c (Some d) = d
+now_at c None = c
 
 -- k: the heap in which c's size word is written, where c is answered
-pub record Resized (c b : ℕ) (k h : Heap) (w : List ℕ) (r : Ran Got) : Type 0 where
+pub record Resized (c b : ℕ) (k h : Heap) (w : List ℕ) (r : Ran (Option ℕ)) : Type 0 where
   pub leaves : Leaves h w r (Found b h) (λ a x. one (now_at c a) x) (one c)
-  pub refused : answer_of r ≡ Nothing → Moved h r (any nil) nil
-  pub own : answer_of r ≡ At c → OwnP c (p_of k c) (heap_of r)
+  pub refused : answer_of r ≡ None → Moved h r (any nil) nil
+  pub own : answer_of r ≡ Some c → OwnP c (p_of k c) (heap_of r)
   pub words : (i : ℕ) → 2 ≤ i → i ≤ size_of h c / 8 → i ≤ size_of (heap_of r) (now_at c (answer_of r)) / 8
       → get_or (apply (writes r) w) (now_at c (answer_of r) / 8 + i) 0 ≡ get_or w (c / 8 + i) 0
 
-resized-if : {c b : ℕ} {h : Heap} {w : List ℕ} (t : Bool) {k l : Heap} {x y : Ran Got} → (t ≡ true → Resized c b k h w x) → (t ≡ false → Resized c b l h w y)
+resized-if : {c b : ℕ} {h : Heap} {w : List ℕ} (t : Bool) {k l : Heap} {x y : Ran (Option ℕ)} → (t ≡ true → Resized c b k h w x) → (t ≡ false → Resized c b l h w y)
     → Resized c b (elim t [ true ↦ k | false ↦ l ]) h w (elim t [ true ↦ x | false ↦ y ])
 resized-if true f g = f refl
 resized-if false f g = g refl
 
 -- c is answered
-here-resized : {A : Type 0} {c b : ℕ} {k h : Heap} {w : List ℕ} (x : Ran A) → InPlace c b (p_of k c) (one c) h w x → Resized c b k h w (giving (At c) x)
+here-resized : {A : Type 0} {c b : ℕ} {k h : Heap} {w : List ℕ} (x : Ran A) → InPlace c b (p_of k c) (one c) h w x → Resized c b k h w (giving (Some c) x)
 here-resized {c = c} {k = k} {h = h} {w = w} (ran g ws a) I = record {
-  leaves = leaves-giving (At c) I.leaves (λ a x. refl) (λ a g p. p);
+  leaves = leaves-giving (Some c) I.leaves (λ a x. refl) (λ a g p. p);
   refused = λ e. absurd (let z : ◌≡◌ {A = ℕ} 0 1 = cc in omega arith);
   own = λ e. I.own;
   words = λ i l u v. spared c (8 * i) ws w (c / 8 + i) (I.spare (8 * i) (omega arith) (omega arith)) (omega arith) (omega arith);
 }
 
 -- another block is answered
-there-resized : {c b d : ℕ} {k h : Heap} {w : List ℕ} (r : Ran Got) → answer_of r ≡ At d → (d ≡ c → ⊥) → Leaves h w r (Found b h) (λ a x. one (now_at c a) x) (one c)
+there-resized : {c b d : ℕ} {k h : Heap} {w : List ℕ} (r : Ran (Option ℕ)) → answer_of r ≡ Some d → (d ≡ c → ⊥) → Leaves h w r (Found b h) (λ a x. one (now_at c a) x) (one c)
     → ((i : ℕ) → 2 ≤ i → i ≤ size_of h c / 8 → get_or (apply (writes r) w) (d / 8 + i) 0 ≡ get_or w (c / 8 + i) 0) → Resized c b k h w r
 there-resized {c = c} {d = d} {w = w} r e ne l f = record {
   leaves = l;
   refused = λ q. absurd (let z : ◌≡◌ {A = ℕ} 0 1 = cc in omega arith);
   own = λ q. absurd (ne (let z : d ≡ c = cc in z));
-  words = λ i j u v. subst (λ (a : Got). get_or (apply (writes r) w) (now_at c a / 8 + i) 0 ≡ get_or w (c / 8 + i) 0) (sym e) (f i j u);
+  words = λ i j u v. subst (λ (a : Option ℕ). get_or (apply (writes r) w) (now_at c a / 8 + i) 0 ≡ get_or w (c / 8 + i) 0) (sym e) (f i j u);
 }
 
 -- ---- what a step does after writes
@@ -75,7 +74,7 @@ apply-more ws vs b (ran h us a) w = apply-append ws (vs ++ us) w ∙ apply-appen
 
 -- ---- a block was sought
 module _ (h : Heap) (w : List ℕ) (c b : ℕ) (g : Good h) (lc : Loose h c) (b16 : b % 16 ≡ 0) (b32 : 32 ≤ b) (less : size_of h c ≤ b) where
-  none_found : (h₁ : Heap) (ws : List Write) → Leaves h w (ran h₁ ws Nothing) (Found b h) gave nil → Resized c b h₁ h w (ran h₁ ws Nothing)
+  none_found : (h₁ : Heap) (ws : List Write) → Leaves h w (ran h₁ ws None) (Found b h) gave nil → Resized c b h₁ h w (ran h₁ ws None)
   none_found h₁ ws L = record {
     leaves = record {
       mem = L.mem;
@@ -87,7 +86,7 @@ module _ (h : Heap) (w : List ℕ) (c b : ℕ) (g : Good h) (lc : Loose h c) (b1
     words = λ i l u v. spared c (size_of h c) ws w (c / 8 + i) (L.moved.spare c lc refl) (omega arith) (omega arith);
   }
 
-  module _ (h₁ : Heap) (ws : List Write) (d : ℕ) (L : Leaves h w (ran h₁ ws (At d)) (Found b h) gave nil) where
+  module _ (h₁ : Heap) (ws : List Write) (d : ℕ) (L : Leaves h w (ran h₁ ws (Some d)) (Found b h) gave nil) where
     -- c is as it was, and d is loose, as it was not before
     pub old-loose : Loose h₁ c
     old-loose = moved_keeps L.moved c lc refl
@@ -107,46 +106,46 @@ module _ (h : Heap) (w : List ℕ) (c b : ℕ) (g : Good h) (lc : Loose h c) (b1
     pub new_apart : d ≡ c → ⊥
     new_apart q = omega (arith, new c lc, ap (one d) q, ind-same d)
 
-    near : d ≡ c + size_of h c → Resized c b h₁ h w (more ws (giving (At c) (widen c h₁ >>= (λ g. finish c b g))))
+    near : d ≡ c + size_of h c → Resized c b h₁ h w (more ws (giving (Some c) (widen c h₁ >>= (λ g. finish c b g))))
     near e =
         let X : Ran (Unit {0}) = widen c h₁ >>= (λ g. finish c b g) in
-        subst (λ (r : Ran Got). Resized c b h₁ h w r) (giving-more ws (At c) X)
+        subst (λ (r : Ran (Option ℕ)). Resized c b h₁ h w r) (giving-more ws (Some c) X)
         (here-resized (more ws X)
-        (in-place-next {r = ran h₁ ws (At d)} (λ g. widen c g >>= (λ g. finish c b g)) L.moved (L.moved.spare c lc refl) (omega (arith, old-size))
+        (in-place-next {r = ran h₁ ws (Some d)} (λ g. widen c g >>= (λ g. finish c b g)) L.moved (L.moved.spare c lc refl) (omega (arith, old-size))
         (joined-in-place h₁ (apply ws w) c d b L.now.0 L.mem old-loose new-loose (omega (arith, e, old-size)) b16 b32 L.now.1)
         (λ x. omega arith) (λ x lo z. (refl, omega (arith, new x lo)))))
 
-    far : Resized c b h₁ h w (more ws (giving (At d) (does h₁ (copies d c (size_of h₁ c / 8 - 1)) >>= (λ g. release c g))))
+    far : Resized c b h₁ h w (more ws (giving (Some d) (does h₁ (copies d c (size_of h₁ c / 8 - 1)) >>= (λ g. release c g))))
     far =
         let v : List ℕ = apply ws w in
         let room : size_of h₁ c ≤ size_of h₁ d = omega (arith, old-size, L.now.1) in
         let vs : List Write = copies d c (size_of h₁ c / 8 - 1) in
         let out : one c d ≡ 0 = ind-other d c new_apart in
         let R = release-leaves h₁ (apply vs v) c L.now.0 (copies-mem h₁ v c d L.now.0 L.mem old-loose new-loose new_apart room) old-loose in
-        let f : Heap → Ran Got = λ g. giving (At d) (does g vs >>= (λ g. release c g)) in
-        there-resized (more ws (f h₁)) (answer-more ws (At d) (does h₁ vs >>= (λ g. release c g))) new_apart
+        let f : Heap → Ran (Option ℕ) = λ g. giving (Some d) (does g vs >>= (λ g. release c g)) in
+        there-resized (more ws (f h₁)) (answer-more ws (Some d) (does h₁ vs >>= (λ g. release c g))) new_apart
         (leaves-next f {i₂ = λ a x. one (now_at c a) x} L.moved
-        (leaves-giving (At d)
+        (leaves-giving (Some d)
         (leaves-next (λ g. release c g) {i = any (one d)} {o = λ x. one d x + one c x} (copies-moved h₁ v c d L.now.0 L.mem old-loose new-loose new_apart room)
         (leaves-size d new-loose out R) (λ b x. omega arith) (λ x lo z. (omega arith, omega arith)))
         (λ a x. refl) (λ a g p. (p.0, omega (arith, p.1, L.now.1))))
         (λ a x. omega arith) (λ x lo z. (refl, omega (arith, new x lo))))
         (λ i l u.
-        ap (λ (m : List ℕ). get_or m (d / 8 + i) 0) (apply-more ws vs (At d) (release c h₁) w)
+        ap (λ (m : List ℕ). get_or m (d / 8 + i) 0) (apply-more ws vs (Some d) (release c h₁) w)
         ∙ spared d (size_of h₁ d) (writes (release c h₁)) (apply vs v) (d / 8 + i) (R.moved.spare d new-loose out) (omega arith) (omega (arith, old-size))
         ∙ copied h₁ v c d L.now.0 L.mem old-loose new-loose new_apart room i l (omega (arith, old-size))
         ∙ spared c (size_of h c) ws w (c / 8 + i) (L.moved.spare c lc refl) (omega arith) (omega arith))
 
-  sought : (r : Ran Got) → Leaves h w r (Found b h) gave nil → Resized c b (heap_of r) h w (moved c b (size_of h c) r)
-  sought (ran h₁ ws Nothing) L = none_found h₁ ws L
-  sought (ran h₁ ws (At d)) L = go (eqb d (c + size_of h c)) refl
+  sought : (r : Ran (Option ℕ)) → Leaves h w r (Found b h) gave nil → Resized c b (heap_of r) h w (moved c b (size_of h c) r)
+  sought (ran h₁ ws None) L = none_found h₁ ws L
+  sought (ran h₁ ws (Some d)) L = go (eqb d (c + size_of h c)) refl
     where
       go : (t : Bool) → eqb d (c + size_of h c) ≡ t → Resized c b h₁ h w (more ws (elim t [
-        | true ↦ giving (At c) (widen c h₁ >>= (λ g. finish c b g))
-        | false ↦ giving (At d) (does h₁ (copies d c (size_of h c / 8 - 1)) >>= (λ g. release c g))
+        | true ↦ giving (Some c) (widen c h₁ >>= (λ g. finish c b g))
+        | false ↦ giving (Some d) (does h₁ (copies d c (size_of h c / 8 - 1)) >>= (λ g. release c g))
       ]))
       go true e = near h₁ ws d L (eqb-true d (c + size_of h c) e)
-      go false e = subst (λ (z : ℕ). Resized c b h₁ h w (more ws (giving (At d) (does h₁ (copies d c (z / 8 - 1)) >>= (λ g. release c g))))) (old-size h₁ ws d L)
+      go false e = subst (λ (z : ℕ). Resized c b h₁ h w (more ws (giving (Some d) (does h₁ (copies d c (z / 8 - 1)) >>= (λ g. release c g))))) (old-size h₁ ws d L)
           (far h₁ ws d L)
 
 -- ---- the heap in which a block that is not moved gets its size: as it is, or as the steps left it that sought another

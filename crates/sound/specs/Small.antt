@@ -1,6 +1,6 @@
 -- Steps 1 to 4 of grant: the cache, the fast list, the small bin, and consolidation before the sweep. Each keeps a sound heap; what it gives is of the size
 -- asked for and new among the loose. The moves to the cache by induction along the list that gives. Assumes nothing.
-use Rattle.std.specs.Prelude.{◌≡◌, refl, Bool, true, false, ltb, leb}
+use Rattle.std.specs.Prelude.{◌≡◌, refl, Bool, true, false, ltb, leb, Option, Some, None}
 use Rattle.std.proofs.Common.{sym, ◌∙◌, ⊎_elim, get_or-set_other}
 use Rattle.std.proofs.Math.Path.{ap}
 use mathlib.Core.List.{List, [], ◌∷◌}
@@ -29,7 +29,6 @@ use Rattle.sound.specs.Leaves.{Leaves, leaves-weaken, leaves_by, leaves-if, leav
 use Rattle.sound.specs.Release.{push_cache-leaves, stack_size-cache, stack_size-fast, both_true}
 use Rattle.sound.specs.Drain.{consolidate-leaves}
 use Rattle.sound.specs.Take.{take_last-leaves}
-use Rattle.machine.specs.declared.{Got.Got, Got.TheVariants.At, Got.TheVariants.Nothing}
 
 -- ---- a list that has a chunk
 pub some-has : (l : List ℕ) → some? l ≡ true → 1 ≤ cnt (lst none64 l) l
@@ -46,8 +45,8 @@ take_found h w k b hk g m so eb = go (stack h k) refl
     go (c ∷ l) e =
         let E = take_cache-ends h w k c l hk g m e in
         let sz : size_of h c ≡ stack_size k = g.homes.stacked k c (omega (arith, ap (cnt c) e, ind-same c)) in
-        leaves_by (ap (λ (z : List ℕ). ran (with_stack k (tl (stack h k)) h) (key (hd none64 (stack h k)) 0 ∷ []) (At (hd none64 z))) e)
-        (leaves-giving (At c)
+        leaves_by (ap (λ (z : List ℕ). ran (with_stack k (tl (stack h k)) h) (key (hd none64 (stack h k)) 0 ∷ []) (Some (hd none64 z))) e)
+        (leaves-giving (Some c)
         (record { mem = E.mem; now = (E.now, omega (arith, sz)); moved = take_cache-moved h k c l g.shape (omega arith) e }) (λ a x. refl) (λ a n p. p))
 
 -- ---- 1. the cache: a grant that passes it finds the cache list of its size empty
@@ -55,12 +54,12 @@ none_has : (l : List ℕ) → some? l ≡ false → l ≡ []
 none_has [] e = refl
 none_has (x ∷ l) e = absurd (let z : ◌≡◌ {A = ℕ} 0 1 = cc in omega arith)
 
-pub step1-passed-empty : (b : ℕ) (h : Heap) → b ≤ 1040 → answer_of (step1 b h) ≡ Nothing → cache h (cache_of b) ≡ []
+pub step1-passed-empty : (b : ℕ) (h : Heap) → b ≤ 1040 → answer_of (step1 b h) ≡ None → cache h (cache_of b) ≡ []
 unfolding step1
 step1-passed-empty b h l = go (both (leb b most_cached) (some? (cache h (cache_of b)))) refl
   where
     go : (t : Bool) → both (leb b most_cached) (some? (cache h (cache_of b))) ≡ t
-        → answer_of {A = Got} (elim t [ true ↦ take_cache (cache_of b) h | false ↦ ran h [] Nothing ]) ≡ Nothing → cache h (cache_of b) ≡ []
+        → answer_of {A = Option ℕ} (elim t [ true ↦ take_cache (cache_of b) h | false ↦ ran h [] None ]) ≡ None → cache h (cache_of b) ≡ []
     go true q e = absurd (let z : ◌≡◌ {A = ℕ} 0 1 = cc in omega arith)
     go false q e = none_has (cache h (cache_of b)) (rw (le-leb b most_cached l) at q)
 
@@ -118,18 +117,18 @@ module _ (b : ℕ) (b16 : b % 16 ≡ 0) (b32 : 32 ≤ b) where
         (λ t. leaves_none m g)
 
     fast-found : (h : Heap) (w : List ℕ) → Good h → Mem h w → some? (stack h K) ≡ true
-        → Leaves h w (giving (At (hd none64 (stack h K))) (pop K h >>= (λ h. move_fast b (stack h K) h))) (Found b h) gave nil
+        → Leaves h w (giving (Some (hd none64 (stack h K))) (pop K h >>= (λ h. move_fast b (stack h K) h))) (Found b h) gave nil
     fast-found h w g m so = go (stack h K) refl
       where
-        go : (l : List ℕ) → stack h K ≡ l → Leaves h w (giving (At (hd none64 (stack h K))) (pop K h >>= (λ h. move_fast b (stack h K) h))) (Found b h) gave nil
+        go : (l : List ℕ) → stack h K ≡ l → Leaves h w (giving (Some (hd none64 (stack h K))) (pop K h >>= (λ h. move_fast b (stack h K) h))) (Found b h) gave nil
         go [] e = absurd (let z : ◌≡◌ {A = ℕ} 0 1 = cc in omega arith)
         go (c ∷ l) e =
             let P = pop-ends h w K K74 g m in
             let h₁ : Heap = heap_of (pop K h) in
             let kl : K < length h.stacks = omega (arith, K74, g.shape.stacked74) in
             let step : Ran (Unit {0}) = pop K h >>= (λ h. move_fast b (stack h K) h) in
-            leaves_by (ap (λ (z : List ℕ). giving (At (hd none64 z)) step) e)
-            (leaves-giving (At c)
+            leaves_by (ap (λ (z : List ℕ). giving (Some (hd none64 z)) step) e)
+            (leaves-giving (Some c)
             (leaves-next (λ h. move_fast b (stack h K) h) {i = any (one c)} {o = nil}
             (pop-moved h K c l g.shape K74 e)
             (leaves-size c (popped h c l g e) refl (move_fast-leaves (stack h₁ K) h₁ w P.now P.mem refl))
@@ -181,7 +180,7 @@ module _ (b : ℕ) (b16 : b % 16 ≡ 0) (b32 : 32 ≤ b) where
         (λ e. leaves_none m g)
 
     bin-found : (h : Heap) (w : List ℕ) → Good h → Mem h w → some? (bin h J) ≡ true
-        → Leaves h w (giving (At (lst none64 (bin h J))) (take_last J (lst none64 (bin h J)) h >>= (λ h. move_lasts (length (bin h J)) b h))) (Found b h) gave nil
+        → Leaves h w (giving (Some (lst none64 (bin h J))) (take_last J (lst none64 (bin h J)) h >>= (λ h. move_lasts (length (bin h J)) b h))) (Found b h) gave nil
     bin-found h w g m so =
         let c : ℕ = lst none64 (bin h J) in
         let mc : 1 ≤ cnt c (bin h J) = some-has (bin h J) so in
@@ -189,7 +188,7 @@ module _ (b : ℕ) (b16 : b % 16 ≡ 0) (b32 : 32 ≤ b) where
         let h₁ : Heap = heap_of (take_last J c h) in
         let v : List ℕ = apply (writes (take_last J c h)) w in
         let lo : Loose h₁ c = omega (arith, L.moved.count c, ind-same c, g.shape.own c) in
-        leaves-giving (At c)
+        leaves-giving (Some c)
         (leaves-next (λ h. move_lasts (length (bin h J)) b h) {i = any (one c)} {o = nil} L.moved
         (leaves-size c lo refl (move_lasts-leaves (length (bin h₁ J)) h₁ v L.now.0 L.mem))
         (λ b x. omega arith) (λ x lo z. (refl, refl))) (λ a x. refl)

@@ -1,28 +1,28 @@
 -- Step 5 stopped after 10,000 chunks binned until document 02, (xiv), took the stop out. Nothing changed: on every sound heap the step with the stop and the step
 -- without it give the same heap, writes and answer, since unsorted never has so many chunks. The old definition stands here alone. Assumes nothing.
-use Rattle.std.specs.Prelude.{◌≡◌, refl, Bool, true, false, ℕ, zero, suc, ◌≤◌, length}
+use Rattle.std.specs.Prelude.{◌≡◌, refl, Bool, true, false, ℕ, zero, suc, ◌≤◌, length, Option}
 use Rattle.std.proofs.Common.{ap, not-suc-le-zero, arith}
 use Rattle.sizes.specs.Limits.{unsorted}
 use Rattle.machine.specs.Heap.{Heap, bin}
 use Rattle.machine.specs.Writes.{Ran, ran, more}
 use Rattle.machine.specs.Grant.{turn, swept, after_turn, sweep, step5}
-use Rattle.machine.specs.declared.{Got.Got, Turn.Turn}
+use Rattle.machine.specs.declared.{Turn.Turn}
 use Rattle.machine.specs.declared.Turn.TheVariants as T
 use Rattle.sound.specs.Relation.{Good}
 use Rattle.sound.specs.Unsorted.{unsorted-few}
 
 -- "Stop after 10,000 chunks binned." left: how many more may be binned
-unfoldable pub sweep_stopping : ℕ → ℕ → ℕ → Bool → Heap → Ran Got
+unfoldable pub sweep_stopping : ℕ → ℕ → ℕ → Bool → Heap → Ran (Option ℕ)
 sweep_stopping zero left b got h = swept b got h
 sweep_stopping (suc n) zero b got h = swept b got h
 sweep_stopping (suc n) (suc left) b got h =
     after_turn (turn b h) (λ g. sweep_stopping n (suc left) b true g) (λ g. sweep_stopping n left b got g) (λ g. swept b got g)
 
-unfoldable pub step5_stopping : ℕ → Heap → Ran Got
+unfoldable pub step5_stopping : ℕ → Heap → Ran (Option ℕ)
 step5_stopping b h = sweep_stopping (length (bin h unsorted)) 10000 b false h
 
 -- what follows a turn is the same where it is the same for every heap
-after_same : (r : Ran Turn) (kept kept' sorted sorted' over : Heap → Ran Got) → ((g : Heap) → kept g ≡ kept' g) → ((g : Heap) → sorted g ≡ sorted' g)
+after_same : (r : Ran Turn) (kept kept' sorted sorted' over : Heap → Ran (Option ℕ)) → ((g : Heap) → kept g ≡ kept' g) → ((g : Heap) → sorted g ≡ sorted' g)
     → after_turn r kept sorted over ≡ after_turn r kept' sorted' over
 after_same (ran h ws (T.Granted c)) kept kept' sorted sorted' over e f = refl
 after_same (ran h ws T.Cached) kept kept' sorted sorted' over e f = ap (more ws) (e h)

@@ -1,6 +1,6 @@
 -- Step 5 of grant: a turn, and the sweep through unsorted, keep a sound heap; what is granted is at least b and new among the loose. While none was cached
 -- the cache lists are as they were, and once one was, the cache list of b has a head to grant. By induction on the turns. Assumes nothing.
-use Rattle.std.specs.Prelude.{◌≡◌, refl, Bool, eqb, ltb, leb, length, get_or}
+use Rattle.std.specs.Prelude.{◌≡◌, refl, Bool, eqb, ltb, leb, length, get_or, Option}
 use Rattle.std.proofs.Common.{sym, ◌∙◌, arith}
 use Rattle.std.proofs.Math.Path.{ap}
 use mathlib.Core.List.{List, [], ◌∷◌}
@@ -28,7 +28,7 @@ use Rattle.sound.specs.JoinLeaves.{Every}
 use Rattle.sound.specs.Release.{stack_size-cache, both_true}
 use Rattle.sound.specs.Take.{from-bin, mark-at, split_rest-leaves}
 use Rattle.sound.specs.Small.{some-has, take_found, cache-leaves}
-use Rattle.machine.specs.declared.{Got.Got, Turn.Turn}
+use Rattle.machine.specs.declared.{Turn.Turn}
 use Rattle.machine.specs.declared.Turn.TheVariants as T
 
 -- ---- what a turn gives, and what it leaves
@@ -142,7 +142,7 @@ module _ (b : ℕ) (b16 : b % 16 ≡ 0) (b32 : 32 ≤ b) where
   caching-after true h₀ h g s k = (ap some? (s.lists (cache_of b) tt) ∙ k.0, k.1)
   caching-after false h₀ h g s k = still-then Cached h₀ h g k (record { lists = λ i l. s.lists i tt; remainder = s.remainder })
 
-  turn-then : (h₀ h : Heap) (w : List ℕ) (r : Ran Turn) (kept sorted over : Heap → Ran Got) → Leaves h w r (Turned b h) gave_t nil
+  turn-then : (h₀ h : Heap) (w : List ℕ) (r : Ran Turn) (kept sorted over : Heap → Ran (Option ℕ)) → Leaves h w r (Turned b h) gave_t nil
       → ((g : Heap) (v : List ℕ) → Mem g v → Turned b h T.Cached g → Leaves g v (kept g) (Found b h₀) gave nil)
       → ((g : Heap) (v : List ℕ) → Mem g v → Turned b h T.Binned g → Leaves g v (sorted g) (Found b h₀) gave nil)
       → ((g : Heap) (v : List ℕ) → Mem g v → Turned b h T.Empty g → Leaves g v (over g) (Found b h₀) gave nil)

@@ -1,6 +1,6 @@
 -- A chunk is taken out of its bin, and given whole or carved: the heap stays sound, the chunk is loose then, and every other loose chunk is as it was.
 -- One law (from-bin) for all that is done with a chunk that has just left its bin. Assumes nothing.
-use Rattle.std.specs.Prelude.{◌≡◌, refl, List, [], ◌∷◌, ◌++◌, Bool, ℕ, ◌+◌, ◌-◌, ◌%◌, ◌≤◌, ltb}
+use Rattle.std.specs.Prelude.{◌≡◌, refl, List, [], ◌∷◌, ◌++◌, Bool, ℕ, ◌+◌, ◌-◌, ◌%◌, ◌≤◌, ltb, Some}
 use Rattle.std.proofs.Common.{sym, ap, ◌∙◌, subst, append_assoc, inl, inr, ⊎_elim, arith, ltb-false}
 use Rattle.sizes.specs.Limits.{least_chunk}
 use Rattle.machine.specs.Lists.{cnt}
@@ -18,7 +18,6 @@ use Rattle.sound.specs.Carve.{Out, Outs, take-out, split-is, mark-ends, split-en
 use Rattle.sound.specs.Moves.{nil, one, any, Moved, listed-not, moved_more, moved_by, unlink-moved, link-moved, set-moved, note-moved, cut_moved}
 use Rattle.sound.specs.Leaves.{Leaves, leaves_of, leaves-weaken, leaves-if, leaves-giving, leaves-next, leaves-then, leaves-widen, gave, Still, Found}
 use Rattle.sound.specs.JoinLeaves.{Every}
-use Rattle.machine.specs.declared.{Got.TheVariants.At}
 
 -- what is done with c, which has left its bin, says that c goes, and whether it comes again
 pub from-bin : {A : Type 0} {h : Heap} {w : List ℕ} (j c : ℕ) (f : Heap → Ran A) {Q : A → Heap → Type 0} {i : A → ℕ → ℕ} → Good h → Mem h w → 1 ≤ cnt c (bin h j)
@@ -177,6 +176,6 @@ pub step8-leaves : (h : Heap) (w : List ℕ) (j c b : ℕ) (new? : Bool) → Goo
     → Leaves h w (step8 j c b new? h) (Found b h) gave nil
 unfolding step8
 step8-leaves h w j c b new? g k mc b16 b32 bc =
-    leaves-giving (At c)
+    leaves-giving (Some c)
     (from-bin j c (λ n. carve c b new? n) g k mc
     (λ a t u r v e z O m. carve-leaves (heap_of (unlink j c h)) v a r t u c b new? e z O m b16 b32 (omega arith))) (λ a x. refl) (λ a n p. p)

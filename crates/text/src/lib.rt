@@ -1,73 +1,69 @@
-// Text in a lent buffer: bytes, decimal numbers, and the line `? k`. Each function writes at a place of the buffer and answers the place after it. Assumes
-// nothing.
+// Text in a lent buffer: bytes, decimal numbers, and the line `? k`. Each method of a page writes behind what was written. Assumes nothing.
 #![tactic(auto)]
 
-ghost use Rattle.std.specs.Prelude.{◌≡◌, [], ◌∷◌, ◌++◌, ◌+◌, ◌≤◌, ◌<◌, length, take};
+ghost use Rattle.std.specs.Prelude.{◌≡◌, [], ◌∷◌, ◌+◌, length};
+ghost use Rattle.text.specs.Pages.{Room, Adds};
 ghost use Rattle.text.specs.Text.{decimal, field, question_text};
 
-pub fn put_byte(out: &mut [u8], at: usize, b: u8) -> usize
-    requires { at < length out.old }
-    ensures value { result ≡ at + 1 }
-    ensures out_after { take result out.new ≡ take at out.old ++ (b ∷ []) }
-{
-    out[at] = b;
-    at + 1
+// A lent buffer and the place in it that is written next.
+#[derive(Drop)]
+pub struct Page<'a> {
+    pub out: &'a mut [u8],
+    pub at: usize,
 }
 
-pub fn put_bytes(out: &mut [u8], at: usize, text: &[u8]) -> usize
-    requires { at + length text.now ≤ length out.old }
-    ensures value { result ≡ at + length text.now }
-    ensures out_after { take result out.new ≡ take at out.old ++ text.now }
-{
-    let mut m = at;
-    let mut i = 0;
-    while i < text.len() {
-        m = put_byte(out, m, text[i]);
-        i += 1;
+impl<'a> Page<'a> {
+    pub fn byte(&mut self, b: u8)
+        requires { Room 1 self.old }
+        ensures exact { self.new.at ≡ self.old.at + 1 }
+        ensures adds { Adds 1 self.old self.new (b ∷ []) }
+    {
+        self.out[self.at] = b;
+        self.at += 1;
     }
-    m
-}
 
-fn digit_of(d: u64) -> u8
-    requires { d < 10 }
-    ensures { result ≡ 48 + d }
-{
-    48 + d as u8
-}
-
-// The last digits of n, at most `places` of them.
-pub fn put_decimal(out: &mut [u8], at: usize, n: u64, places: usize) -> usize
-    requires { at + places ≤ length out.old }
-    ensures upper_bound { result ≤ at + places }
-    ensures out_after { take result out.new ≡ take at out.old ++ decimal places n }
-{
-    if places == 0 {
-        return at;
+    pub fn bytes(&mut self, text: &[u8])
+        requires { Room (length text.now) self.old }
+        ensures exact { self.new.at ≡ self.old.at + length text.now }
+        ensures adds { Adds (length text.now) self.old self.new text.now }
+    {
+        let end = self.at + text.len();
+        self.out[self.at..end].copy_from_slice(text);
+        self.at = end;
     }
-    if n < 10 {
-        return put_byte(out, at, digit_of(n));
+
+    // The last digits of n, at most `places` of them.
+    pub fn decimal(&mut self, n: u64, places: usize)
+        requires { Room places self.old }
+        ensures { Adds places self.old self.new (decimal places n) }
+    {
+        if places == 0 {
+            return;
+        }
+        if n < 10 {
+            self.byte(b'0' + n as u8);
+            return;
+        }
+        self.decimal(n / 10, places - 1);
+        self.byte(b'0' + (n % 10) as u8);
     }
-    let m = put_decimal(out, at, n / 10, places - 1);
-    put_byte(out, m, digit_of(n % 10))
-}
 
-// A blank and a number.
-pub fn put_field(out: &mut [u8], at: usize, n: u64) -> usize
-    requires { at + 21 ≤ length out.old }
-    ensures upper_bound { result ≤ at + 21 }
-    ensures out_after { take result out.new ≡ take at out.old ++ field n }
-{
-    let m = put_byte(out, at, b' ');
-    put_decimal(out, m, n, 20)
-}
+    // A blank and a number.
+    pub fn field(&mut self, n: u64)
+        requires { Room 21 self.old }
+        ensures { Adds 21 self.old self.new (field n) }
+    {
+        self.byte(b' ');
+        self.decimal(n, 20);
+    }
 
-// The line `? k`.
-pub fn put_question(out: &mut [u8], at: usize, k: u64) -> usize
-    requires { at + 23 ≤ length out.old }
-    ensures upper_bound { result ≤ at + 23 }
-    ensures out_after { take result out.new ≡ take at out.old ++ question_text k }
-{
-    let a0 = put_byte(out, at, b'?');
-    let a1 = put_field(out, a0, k);
-    put_byte(out, a1, b'\n')
+    // The line `? k`.
+    pub fn question(&mut self, k: u64)
+        requires { Room 23 self.old }
+        ensures { Adds 23 self.old self.new (question_text k) }
+    {
+        self.byte(b'?');
+        self.field(k);
+        self.byte(b'\n');
+    }
 }

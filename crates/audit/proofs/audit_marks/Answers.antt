@@ -1,11 +1,11 @@
 -- `audit_marks` meets its contract: each way out is a lemma of Whole. Assumes nothing.
-use mathlib.Core.Path.{◌≡◌, sym, ap, ◌∙◌}
+use mathlib.Core.Path.{◌≡◌, refl, sym, ap, ◌∙◌}
+use Rattle.std.proofs.lemmas.Result.{err_from_is_err_and}
 use Prim.Native.Nat.{◌*◌}
 use native.Mathlib.Omega.{arith}
 use lib.ListN.{length, get_or}
 use Rattle.le.specs.Arena.{arena_words}
 use Rattle.machine.specs.Audit.{edition?}
-use Rattle.audit_walks.specs.Tests.{is-sound}
 use Rattle.audit_walks.specs.TileTurn.{arena-length}
 use Rattle.audit.specs.Whole.{Told, audit-record, audit-edition, audit-tile, audit-list, flagging, audit-flag, bytes-kept}
 use Rattle.audit.proofs.audit_marks.Goals as goal
@@ -26,40 +26,32 @@ returns-then-not-is_edition c =
 pub overflow_cast-top : goal.overflow_cast-top
 overflow_cast-top c = omega (arith, c.shared_slice_known-4-1.given 1)
 
-pub returns-then-not-is_sound : goal.returns-then-not-is_sound
-returns-then-not-is_sound c =
+pub returns-in_err-tile_fault : goal.returns-in_err-tile_fault
+returns-in_err-tile_fault c =
     let w = arena_words c.args.a.now in
     let e : Told w c.args.r.now = (omega (arith, c.if-r-a.false, arena-length c.args.a.now c.requires.0.arena), sym (c.is_edition.ensures ∙ ap edition? c.edition_in.ensures) ∙ c.if-not-is_edition.false) in
-    audit-tile c.args.v w c.args.r.now _ _ _ e c.tile_fault-t.ensures (sym c.is_sound.ensures ∙ c.if-not-is_sound.true)
+    let p = err_from_is_err_and c.from_residual.result c.from_residual.ensures.1 in
+    rw (p.1, p.2) (audit-tile c.args.v w c.args.r.now _ _ _ e c.in_err-tile_fault.ensures refl)
 
-pub list_fault-l-requires : goal.list_fault-l-requires
-list_fault-l-requires c =
-    let t = c.tile_fault-t in
-    let ts = is-sound t.result (sym c.is_sound.ensures ∙ c.if-not-is_sound.false) in
-    (bytes-kept c.args.a.now c.args.m.now _ t.auto.m c.requires.0, c.requires.1, t.ensures.marks ts)
+pub list_fault-requires : goal.list_fault-requires
+list_fault-requires c =
+    let t = c.in_ok-tile_fault in
+    (bytes-kept c.args.a.now c.args.m.now _ c.tile_fault.auto.m c.requires.0, c.requires.1, t.ensures.marks refl)
 
-pub returns-then-not-is_sound-2 : goal.returns-then-not-is_sound-2
-returns-then-not-is_sound-2 c =
+pub returns-in_err-list_fault : goal.returns-in_err-list_fault
+returns-in_err-list_fault c =
     let w = arena_words c.args.a.now in
     let e : Told w c.args.r.now = (omega (arith, c.if-r-a.false, arena-length c.args.a.now c.requires.0.arena), sym (c.is_edition.ensures ∙ ap edition? c.edition_in.ensures) ∙ c.if-not-is_edition.false) in
-    let t = c.tile_fault-t in
-    let ts = is-sound t.result (sym c.is_sound.ensures ∙ c.if-not-is_sound.false) in
-    audit-list c.args.v w c.args.r.now _ _ _ _ _ e t.ensures ts c.list_fault-l.ensures (sym c.is_sound-2.ensures ∙ c.if-not-is_sound-2.true)
+    let p = err_from_is_err_and c.from_residual-in_err-list_fault.result c.from_residual-in_err-list_fault.ensures.1 in
+    rw (p.1, p.2) (audit-list c.args.v w c.args.r.now _ _ _ _ _ e c.in_ok-tile_fault.ensures refl c.in_err-list_fault.ensures refl)
 
 pub flag_fault-requires : goal.flag_fault-requires
 flag_fault-requires c =
     let w = arena_words c.args.a.now in
-    let t = c.tile_fault-t in
-    let ts = is-sound t.result (sym c.is_sound.ensures ∙ c.if-not-is_sound.false) in
-    let l = c.list_fault-l in
-    (bytes-kept c.args.a.now c.args.m.now _ (l.auto.m ∙ t.auto.m) c.requires.0, flagging w c.args.r.now _ _ t.ensures ts)
+    (bytes-kept c.args.a.now c.args.m.now _ (c.list_fault.auto.m ∙ c.tile_fault.auto.m) c.requires.0, flagging w c.args.r.now _ _ c.in_ok-tile_fault.ensures refl)
 
 pub returns : goal.returns
 returns c =
     let w = arena_words c.args.a.now in
     let e : Told w c.args.r.now = (omega (arith, c.if-r-a.false, arena-length c.args.a.now c.requires.0.arena), sym (c.is_edition.ensures ∙ ap edition? c.edition_in.ensures) ∙ c.if-not-is_edition.false) in
-    let t = c.tile_fault-t in
-    let ts = is-sound t.result (sym c.is_sound.ensures ∙ c.if-not-is_sound.false) in
-    let l = c.list_fault-l in
-    let ls = is-sound l.result (sym c.is_sound-2.ensures ∙ c.if-not-is_sound-2.false) in
-    audit-flag c.args.v w c.args.r.now _ _ _ _ _ e t.ensures ts l.ensures ls c.flag_fault.ensures
+    audit-flag c.args.v w c.args.r.now _ _ _ _ _ e c.in_ok-tile_fault.ensures refl c.in_ok-list_fault.ensures refl c.flag_fault.ensures

@@ -1,10 +1,6 @@
 -- `audit_empty_lists::skip_caches` meets its contract: the cache lists passed are empty by their heads and counts. Assumes nothing.
-use Prim.Native.Nat.{◌-◌}
 use Rattle.audit_empty_lists.specs.Skips.{Skipped}
 use Rattle.audit_empty_lists.proofs.skip_caches.Given as goal
 
 abbrev pub invariant-loop-j : goal.invariant-loop-j
 invariant-loop-j l = Skipped l.r l.i l.j
-
-abbrev pub decreases-loop-j : goal.decreases-loop-j
-decreases-loop-j l = 200 - l.j

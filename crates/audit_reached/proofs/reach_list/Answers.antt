@@ -64,7 +64,7 @@ loop-c-smaller c = omega (arith, c.loop-c.invariant.1.few)
 pub loop-c-preserved : goal.loop-c-preserved
 loop-c-preserved c =
     let l = c.loop-c in
-    let x = c.asked_by-x.ensures in
+    let x = c.asked_by-asked.ensures in
     let un = sym c.unmet.ensures ∙ c.if-not-unmet.false in
     let next = link-read c.args.r.now c.kind_at-k.result l.c.0 _ (get_or (arena_words c.args.a.now) (fwd_word l.c.0) 0) c.links_by-d.result _ c.stack_link_at-c.ensures c.links_by-d.ensures c.edition_in-edition.ensures in
     let stands = c.if-not-may_stand.false in (
@@ -95,7 +95,7 @@ shape_of-m-then-not-may_stand c = c.loop-c.invariant.0
 
 pub returns-then-not-may_stand : goal.returns-then-not-may_stand
 returns-then-not-may_stand c =
-    let x = c.asked_by-x.ensures in
+    let x = c.asked_by-asked.ensures in
     let un = sym c.unmet.ensures ∙ c.if-not-unmet.false in
     let l = c.loop-c in
     list-misplaced c.args.v (arena_words c.args.a.now) c.args.r.now _ _ _ _ _ _ _ l.invariant.1 _ c.loop-c-test.true un

@@ -1,37 +1,17 @@
 -- `consolidate::consolidate` meets its contract. The invariant: consolidate from the start is what was done so far and then the rest of it, from list k on.
 -- Assumes nothing.
-use native.Mathlib.Omega.{arith}
-use mathlib.Core.Path.{refl, ◌∙◌}
 use Rattle.primitives.specs.Reach.{reach-has}
 use Rattle.consolidate.specs.Drain.{consolidate-start, fast-list, fast-end}
 use Rattle.consolidate.proofs.consolidate.Goals as goal
 
 pub loop-k-init : goal.loop-k-init
-loop-k-init c = (refl, refl, omega arith, consolidate-start _ _)
+loop-k-init c = consolidate-start _ _
 
 pub drain_fast-requires : goal.drain_fast-requires
-drain_fast-requires c =
-    (c.loop-k-test.true, reach-has (c.loop-k.invariant.3.reach c.requires.heap c.requires.ok c.requires.holds))
-
-pub overflow_add-k : goal.overflow_add-k
-overflow_add-k c = omega (arith, c.loop-k-test.true)
-
-pub loop-k-smaller : goal.loop-k-smaller
-loop-k-smaller c = omega (arith, c.loop-k-test.true)
+drain_fast-requires c = (c.loop-k-test.true, reach-has (c.loop-k.invariant.reach c.requires.heap c.requires.ok c.requires.holds))
 
 pub loop-k-preserved : goal.loop-k-preserved
-loop-k-preserved c = (
-  c.drain_fast.auto.a ∙ c.loop-k.invariant.0,
-  c.drain_fast.auto.r ∙ c.loop-k.invariant.1,
-  omega (arith, c.loop-k-test.true),
-  record { reach = λ h o g. fast-list _ c.loop-k-test.true (c.loop-k.invariant.3.reach h o g) c.drain_fast.ensures },
-)
-
-pub shape_of-a : goal.shape_of-a
-shape_of-a c = c.loop-k.invariant.0
-
-pub shape_of-r : goal.shape_of-r
-shape_of-r c = c.loop-k.invariant.1
+loop-k-preserved c = record { reach = λ h o g. fast-list _ c.loop-k-test.true (c.loop-k.invariant.reach h o g) c.drain_fast.ensures }
 
 pub returns : goal.returns
-returns c = record { does = λ h o g. fast-end _ c.loop-k-test.false (c.loop-k.invariant.3.reach h o g) }
+returns c = record { does = λ h o g. fast-end _ c.loop-k-test.false (c.loop-k.invariant.reach h o g) }

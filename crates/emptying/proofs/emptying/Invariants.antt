@@ -1,8 +1,5 @@
 -- `emptying::emptying` meets its contract. The invariant: emptying from the start is what was done so far and then the rest of it, from list k on.
 -- Assumes nothing.
-use Prim.Native.Nat.{◌-◌, ◌≤◌}
-use mathlib.Core.Path.{◌≡◌}
-use lib.ListN.{length}
 use Rattle.le.specs.Arena.{arena_words}
 use Rattle.machine.specs.Release.{emptying}
 use Rattle.primitives.specs.Reach.{Way}
@@ -10,8 +7,4 @@ use Rattle.emptying.specs.Emptying.{from_cache}
 use Rattle.emptying.proofs.emptying.Given as goal
 
 abbrev pub invariant-loop-k : goal.invariant-loop-k
-invariant-loop-k l = (length l.a ≡ length l.initial.a) × (length l.r ≡ length l.initial.r) × (l.k ≤ 64) × Way (Unit {0}) emptying (from_cache l.k) (arena_words l.initial.a) l.initial.r
-    (arena_words l.a) l.r
-
-abbrev pub decreases-loop-k : goal.decreases-loop-k
-decreases-loop-k l = 64 - l.k
+invariant-loop-k l = Way (Unit {0}) emptying (from_cache l.k) (arena_words l.initial.a) l.initial.r (arena_words l.a) l.r

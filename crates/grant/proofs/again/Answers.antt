@@ -5,14 +5,14 @@ use Rattle.grant.specs.Ways.{keeps-all, again-over, again-pass}
 use Rattle.grant.proofs.again.Goals as goal
 
 pub any_fast-requires : goal.any_fast-requires
-any_fast-requires c = ok-length _ _ _ c.requires.3.ok
+any_fast-requires c = ok-length _ _ _ c.requires.ok
 
 pub pass-requires : goal.pass-requires
-pass-requires c = (c.requires.0, c.requires.1, c.requires.2, after keeps-all c.consolidate.ensures c.requires.3)
+pass-requires c = after keeps-all c.consolidate.ensures c.requires
 
 pub returns-then-any_fast : goal.returns-then-any_fast
 returns-then-any_fast c =
-    again-pass c.args.b c.requires.0 c.requires.1 _ c.any_fast.ensures c.if-any_fast.true c.consolidate.ensures c.pass.ensures
+    again-pass c.args.b.bytes c.args.b.whole c.args.b.least _ c.any_fast.ensures c.if-any_fast.true c.consolidate.ensures c.pass.ensures
 
 pub returns : goal.returns
-returns c = again-over c.args.b c.requires.0 c.requires.1 _ _ _ c.any_fast.ensures c.if-any_fast.false
+returns c = again-over c.args.b.bytes c.args.b.whole c.args.b.least _ _ _ c.any_fast.ensures c.if-any_fast.false

@@ -9,31 +9,29 @@ use Rattle.grant_step_5.proofs.split_lone.Goals as goal
 
 pub unlink-requires : goal.unlink-requires
 unlink-requires c =
-    let p = c.requires.3 in
+    let p = c.requires.1 in
     record { heap = p.heap; ok = p.ok; holds = in-unsorted p.heap _ _ _ _ p.ok p.holds }
 
 pub split-requires : goal.split-requires
 split-requires c =
-    let p = c.requires.3 in
+    let p = c.requires.1 in
     let m = c.unlink.ensures in (
-      c.requires.0,
-      c.requires.1,
-      omega (arith, c.requires.2),
+      omega (arith, c.requires.0),
       record { heap = _; ok = out-ok p.heap _ _ _ _ p.ok p.holds _ _ m; holds = out-taken p.heap _ _ _ _ p.ok p.holds _ _ m },
     )
 
 pub overflow_add-r : goal.overflow_add-r
 overflow_add-r c =
-    let i = next-inside c.requires.3.heap _ _ _ _ c.requires.3.ok c.requires.3.holds in
+    let i = next-inside c.requires.1.heap _ _ _ _ c.requires.1.ok c.requires.1.holds in
     record { fits = omega arith }
 
 pub overflow_cast-r : goal.overflow_cast-r
 overflow_cast-r c =
-    let i = next-inside c.requires.3.heap _ _ _ _ c.requires.3.ok c.requires.3.holds in
+    let i = next-inside c.requires.1.heap _ _ _ _ c.requires.1.ok c.requires.1.holds in
     record { fits = omega arith }
 
 pub bounds-r-2 : goal.bounds-r-2
-bounds-r-2 c = omega (arith, c.split.auto.r, c.unlink.auto.r, ok-length _ _ _ c.requires.3.ok)
+bounds-r-2 c = omega (arith, c.split.auto.r, c.unlink.auto.r, ok-length _ _ _ c.requires.1.ok)
 
 pub shape_of-r : goal.shape_of-r
 shape_of-r c = simp length-set (c.split.auto.r ∙ c.unlink.auto.r)

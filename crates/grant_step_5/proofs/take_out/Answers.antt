@@ -6,32 +6,30 @@ use Rattle.grant_step_5.proofs.take_out.Goals as goal
 
 pub unlink-requires : goal.unlink-requires
 unlink-requires c =
-    let p = c.requires.1 in
+    let p = c.requires in
     record { heap = p.heap; ok = p.ok; holds = in-unsorted p.heap _ _ _ _ p.ok p.holds }
 
 pub overflow_add-c : goal.overflow_add-c
 overflow_add-c c =
-    let p = c.requires.1 in
+    let p = c.requires in
     let i = next-inside p.heap _ _ _ _ p.ok p.holds in
     record { fits = omega arith }
 
 pub set_p-requires : goal.set_p-requires
 set_p-requires c =
-    let p = c.requires.1 in
+    let p = c.requires in
     let i = next-inside p.heap _ _ _ _ p.ok p.holds in
     (omega arith, omega (arith, c.unlink.auto.a))
 
 pub keep-requires : goal.keep-requires
 keep-requires c =
-    let p = c.requires.1 in
-    let m = c.unlink.ensures in (
-      c.requires.0,
-      record {
-        heap = _;
-        ok = marked-ok p.heap _ _ _ _ p.ok p.holds _ _ m _ c.set_p.ensures;
-        holds = marked-loose p.heap _ _ _ _ p.ok p.holds _ _ m _ c.set_p.ensures;
-      },
-    )
+    let p = c.requires in
+    let m = c.unlink.ensures in
+    record {
+      heap = _;
+      ok = marked-ok p.heap _ _ _ _ p.ok p.holds _ _ m _ c.set_p.ensures;
+      holds = marked-loose p.heap _ _ _ _ p.ok p.holds _ _ m _ c.set_p.ensures;
+    }
 
 pub returns-then-z-b : goal.returns-then-z-b
 returns-then-z-b c =
@@ -39,7 +37,7 @@ returns-then-z-b c =
 
 pub sort_in-requires : goal.sort_in-requires
 sort_in-requires c =
-    let p = c.requires.1 in
+    let p = c.requires in
     let m = c.unlink.ensures in
     let t = out-taken p.heap _ _ _ _ p.ok p.holds _ _ m in
     record { heap = _; ok = out-ok p.heap _ _ _ _ p.ok p.holds _ _ m; holds = (t.loose, t.size) }

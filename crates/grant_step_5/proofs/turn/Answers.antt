@@ -6,7 +6,7 @@ use Rattle.grant_step_5.specs.Turns.{lone_room, last_none, last_some, last-insid
 use Rattle.grant_step_5.proofs.turn.Goals as goal
 
 pub bounds-r-bin_last : goal.bounds-r-bin_last
-bounds-r-bin_last c = omega (arith, ok-length _ _ _ c.requires.2.ok)
+bounds-r-bin_last c = omega (arith, ok-length _ _ _ c.requires.ok)
 
 pub returns-then-last : goal.returns-then-last
 returns-then-last c =
@@ -15,25 +15,23 @@ returns-then-last c =
 
 pub overflow_cast-c : goal.overflow_cast-c
 overflow_cast-c c =
-    let p = c.requires.2 in
+    let p = c.requires in
     let i = last-inside p.heap _ _ (last_some p.heap _ _ p.ok _ c.bin_last.ensures c.if-last.false) in
     record { fits = omega arith }
 
 pub size_at-z-requires : goal.size_at-z-requires
 size_at-z-requires c =
-    let p = c.requires.2 in
+    let p = c.requires in
     let i = last-inside p.heap _ _ (last_some p.heap _ _ p.ok _ c.bin_last.ensures c.if-last.false) in
     (omega arith, omega arith)
 
 pub is_lone-requires : goal.is_lone-requires
-is_lone-requires c = ok-length _ _ _ c.requires.2.ok
+is_lone-requires c = ok-length _ _ _ c.requires.ok
 
 pub split_lone-requires : goal.split_lone-requires
 split_lone-requires c =
-    let p = c.requires.2 in
+    let p = c.requires in
     let l = last_some p.heap _ _ p.ok _ c.bin_last.ensures c.if-last.false in (
-      c.requires.0,
-      c.requires.1,
       lone_room _ _ _ _ _ c.is_lone.ensures c.if-is_lone.true,
       record { heap = p.heap; ok = p.ok; holds = last-waits p.heap _ _ _ _ p.ok p.holds l c.size_at-z.ensures },
     )
@@ -50,9 +48,9 @@ returns-then-is_lone c =
 
 pub take_out-requires : goal.take_out-requires
 take_out-requires c =
-    let p = c.requires.2 in
+    let p = c.requires in
     let l = last_some p.heap _ _ p.ok _ c.bin_last.ensures c.if-last.false in
-    (c.requires.1, record { heap = p.heap; ok = p.ok; holds = last-waits p.heap _ _ _ _ p.ok p.holds l c.size_at-z.ensures })
+    record { heap = p.heap; ok = p.ok; holds = last-waits p.heap _ _ _ _ p.ok p.holds l c.size_at-z.ensures }
 
 pub returns : goal.returns
 returns c =

@@ -8,21 +8,21 @@ use Rattle.grant_step_8.proofs.step8.Goals as goal
 
 pub size_at-z-requires : goal.size_at-z-requires
 size_at-z-requires c =
-    let inside : Inside (length c.args.a.now) c.args.c.0 = home-inside _ _ _ _ _ c.requires.2.ok c.requires.2.holds.1.here in
+    let inside : Inside (length c.args.a.now) c.args.c.0 = home-inside _ _ _ _ _ c.requires.ok c.requires.holds.1.here in
     let i = inside in (omega arith, omega arith)
 
 pub unlink-requires : goal.unlink-requires
-unlink-requires c = let p = c.requires.2 in record { heap = p.heap; ok = p.ok; holds = fit-in _ _ _ _ p.holds.0 p.holds.1 }
+unlink-requires c = let p = c.requires in record { heap = p.heap; ok = p.ok; holds = fit-in _ _ _ _ p.holds.0 p.holds.1 }
 
 pub carve-requires : goal.carve-requires
 carve-requires c =
-    let p = c.requires.2 in
+    let p = c.requires in
     let e = size-fit _ _ _ _ _ _ _ p.ok p.holds.0 p.holds.1 c.size_at-z.ensures in
-    (c.requires.0, c.requires.1, omega (arith, e, p.holds.1.enough), unlinked-has _ _ _ _ _ _ _ p.ok p.holds.0 p.holds.1 c.size_at-z.ensures _ _ c.unlink.ensures)
+    (omega (arith, e, p.holds.1.enough), unlinked-has _ _ _ _ _ _ _ p.ok p.holds.0 p.holds.1 c.size_at-z.ensures _ _ c.unlink.ensures)
 
 pub overflow_cast-result : goal.overflow_cast-result
 overflow_cast-result c =
-    let inside : Inside (length c.args.a.now) c.args.c.0 = home-inside _ _ _ _ _ c.requires.2.ok c.requires.2.holds.1.here in
+    let inside : Inside (length c.args.a.now) c.args.c.0 = home-inside _ _ _ _ _ c.requires.ok c.requires.holds.1.here in
     let i = inside in record { fits = omega arith }
 
 pub returns : goal.returns

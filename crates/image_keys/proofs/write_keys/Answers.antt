@@ -1,6 +1,4 @@
 -- `image_keys::write_keys` meets its contract. The invariant: with the keys of the cache lists from k on the words are those at the end. Assumes nothing.
-use native.Mathlib.Omega.{arith}
-use mathlib.Core.Path.{refl, ◌∙◌}
 use Rattle.image_keys.specs.KeyTurns.{lacking-length, from_start, from_next, from_end}
 use Rattle.image_keys.proofs.write_keys.Goals as goal
 
@@ -8,29 +6,16 @@ pub key_in-q-requires : goal.key_in-q-requires
 key_in-q-requires c = lacking-length _ _ _ c.requires.sound
 
 pub loop-k-init : goal.loop-k-init
-loop-k-init c = (refl, omega arith, λ h o. from_start h _ _ o)
+loop-k-init c = λ h o. from_start h _ _ o
 
 pub key_list-requires : goal.key_list-requires
 key_list-requires c =
-    (c.loop-k-test.true, record { heap = c.requires.heap; sound = (c.loop-k.invariant.2 c.requires.heap c.requires.sound).sound })
-
-pub overflow_add-k : goal.overflow_add-k
-overflow_add-k c = omega (arith, c.loop-k-test.true)
-
-pub loop-k-smaller : goal.loop-k-smaller
-loop-k-smaller c = omega (arith, c.loop-k-test.true)
+    (c.loop-k-test.true, record { heap = c.requires.heap; sound = (c.loop-k.invariant c.requires.heap c.requires.sound).sound })
 
 pub loop-k-preserved : goal.loop-k-preserved
-loop-k-preserved c = (
-  c.key_list.auto.a ∙ c.loop-k.invariant.0,
-  omega (arith, c.loop-k-test.true),
-  λ h o.
-      let L = c.loop-k.invariant.2 h o in
-      from_next L _ c.loop-k-test.true c.key_in-q.ensures (c.key_list.ensures h L.sound),
-)
-
-pub shape_of-a : goal.shape_of-a
-shape_of-a c = c.loop-k.invariant.0
+loop-k-preserved c = λ h o.
+    let L = c.loop-k.invariant h o in
+    from_next L _ c.loop-k-test.true c.key_in-q.ensures (c.key_list.ensures h L.sound)
 
 pub returns : goal.returns
-returns c = λ h o. from_end (c.loop-k.invariant.2 h o) c.loop-k-test.false
+returns c = λ h o. from_end (c.loop-k.invariant h o) c.loop-k-test.false

@@ -1,7 +1,4 @@
 -- `image_skips::write_rings` meets its contract. The invariant: with the rings of the bins from j on the words are those at the end. Assumes nothing.
-use mathlib.Core.Path.{◌≡◌}
-use Prim.Native.Nat.{◌-◌, ◌≤◌}
-use lib.ListN.{length}
 use Rattle.le.specs.Arena.{arena_words}
 use Rattle.machine.specs.Heap.{Heap}
 use Rattle.machine.specs.Writes.{apply}
@@ -11,8 +8,4 @@ use Rattle.image_skips.specs.SkipTurns.{RingsTo}
 use Rattle.image_skips.proofs.write_rings.Given as goal
 
 abbrev pub invariant-loop-j : goal.invariant-loop-j
-invariant-loop-j l =
-    (length l.a ≡ length l.initial.a) × (64 ≤ l.j) × (l.j ≤ 127) × ((h : Heap) → Linked h (arena_words l.initial.a) l.r → RingsTo l.j h l.r (apply (rings_from 63 64 h) (arena_words l.initial.a)) (arena_words l.a))
-
-abbrev pub decreases-loop-j : goal.decreases-loop-j
-decreases-loop-j l = 127 - l.j
+invariant-loop-j l = (h : Heap) → Linked h (arena_words l.initial.a) l.r → RingsTo l.j h l.r (apply (rings_from 63 64 h) (arena_words l.initial.a)) (arena_words l.a)

@@ -5,4 +5,4 @@ use Rattle.le.specs.ArenaLaws.{arena_words-set}
 use Rattle.le.proofs.set_word.Goals as goal
 
 pub returns : goal.returns
-returns c = ap arena_words c.write8.ensures ∙ arena_words-set _ _ _ c.requires.0 c.requires.1 c.ranges.v.fits
+returns c = ap arena_words c.write.ensures ∙ arena_words-set _ _ _ c.requires.0 c.requires.1 c.ranges.v.fits

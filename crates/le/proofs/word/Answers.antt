@@ -4,4 +4,4 @@ use Rattle.le.specs.ArenaLaws.{get_d-arena_words}
 use Rattle.le.proofs.word.Goals as goal
 
 pub returns : goal.returns
-returns c = c.read8.ensures ∙ sym (get_d-arena_words _ _ c.requires.0 c.requires.1)
+returns c = c.read.ensures ∙ sym (get_d-arena_words _ _ c.requires.0 c.requires.1)

@@ -12,7 +12,7 @@ pub returns : goal.returns
 returns c =
     let k = c.args.k in
     let r = c.args.r.now in
-    let word = c.shared_slice_known-1.given in
+    let word = c.type_inv.r in
     cache-only-bytes k c.args.control.now r _ c.requires.0 c.requires.2 c.requires.3 (word (cache_head k)).fits (word (cache_count k)).fits
-    (λ i. (c.slice_known-3-1.given i).fits)
-    (c.write4-2.ensures ∙ ap (λ (u : List ℕ). put 4 u (4 * cache_count k) (get_or r (cache_count k) 0)) c.write4.ensures)
+    (λ i. (c.type_inv.control i).fits)
+    (c.write-2.ensures ∙ ap (λ (u : List ℕ). put 4 u (4 * cache_count k) (get_or r (cache_count k) 0)) c.write.ensures)

@@ -19,19 +19,19 @@ use Rattle.resize.proofs.resize.Goals as goal
 
 pub size_at-z-requires : goal.size_at-z-requires
 size_at-z-requires c =
-    let inside : Inside (length c.args.a.now) c.args.c.0 = loose-inside _ _ _ c.requires.3.ok _ c.requires.3.holds.1 in
+    let inside : Inside (length c.args.a.now) c.args.c.0 = loose-inside _ _ _ c.requires.ok _ c.requires.holds.1 in
     size-inside (inside)
 
 pub finish-requires : goal.finish-requires
 finish-requires c =
     let live : (h : Heap) → Ok h (arena_words c.args.a.now) c.args.r.now → Good h × Loose h c.args.c.0 → Live h c.args.c.0 c.size_at-z.result = λ h o g. live-read h _ _ _ _ o g.0 g.1 c.size_at-z.ensures in
-    let has : Has (λ h. Live h c.args.c.0 c.size_at-z.result) (arena_words c.args.a.now) c.args.r.now = let p = c.requires.3 in record { heap = p.heap; ok = p.ok; holds = live p.heap p.ok p.holds } in
+    let has : Has (λ h. Live h c.args.c.0 c.size_at-z.result) (arena_words c.args.a.now) c.args.r.now = let p = c.requires in record { heap = p.heap; ok = p.ok; holds = live p.heap p.ok p.holds } in
     let p = has in
-    (c.requires.0, c.requires.1, c.if-b-z.true, record { heap = p.heap; ok = p.ok; holds = live-stands _ _ _ p.holds })
+    (c.if-b-z.true, record { heap = p.heap; ok = p.ok; holds = live-stands _ _ _ p.holds })
 
 pub overflow_cast-result : goal.overflow_cast-result
 overflow_cast-result c =
-    let inside : Inside (length c.args.a.now) c.args.c.0 = loose-inside _ _ _ c.requires.3.ok _ c.requires.3.holds.1 in
+    let inside : Inside (length c.args.a.now) c.args.c.0 = loose-inside _ _ _ c.requires.ok _ c.requires.holds.1 in
     let k = inside in record { fits = omega arith }
 
 pub returns-then-b-z : goal.returns-then-b-z
@@ -41,22 +41,22 @@ returns-then-b-z c =
 
 pub top_reaches-requires : goal.top_reaches-requires
 top_reaches-requires c =
-    let top : TopAt (length c.args.a.now) (get_or c.args.r.now top_word 0) (get_or c.args.r.now length_word 0) = let p = c.requires.3 in top-at _ _ (record { heap = p.heap; ok = p.ok; holds = p.holds.0 }) in
+    let top : TopAt (length c.args.a.now) (get_or c.args.r.now top_word 0) (get_or c.args.r.now length_word 0) = let p = c.requires in top-at _ _ (record { heap = p.heap; ok = p.ok; holds = p.holds.0 }) in
     let live : (h : Heap) → Ok h (arena_words c.args.a.now) c.args.r.now → Good h × Loose h c.args.c.0 → Live h c.args.c.0 c.size_at-z.result = λ h o g. live-read h _ _ _ _ o g.0 g.1 c.size_at-z.ensures in
-    let has : Has (λ h. Live h c.args.c.0 c.size_at-z.result) (arena_words c.args.a.now) c.args.r.now = let p = c.requires.3 in record { heap = p.heap; ok = p.ok; holds = live p.heap p.ok p.holds } in
+    let has : Has (λ h. Live h c.args.c.0 c.size_at-z.result) (arena_words c.args.a.now) c.args.r.now = let p = c.requires in record { heap = p.heap; ok = p.ok; holds = live p.heap p.ok p.holds } in
     let p = has in
-    (ok-length _ _ _ p.ok, stands-small _ _ _ _ _ p.ok (live-stands _ _ _ p.holds), c.requires.2, omega (arith, (top).room))
+    (ok-length _ _ _ p.ok, stands-small _ _ _ _ _ p.ok (live-stands _ _ _ p.holds), omega (arith, (top).room))
 
 pub grow_top-requires : goal.grow_top-requires
 grow_top-requires c =
     let live : (h : Heap) → Ok h (arena_words c.args.a.now) c.args.r.now → Good h × Loose h c.args.c.0 → Live h c.args.c.0 c.size_at-z.result = λ h o g. live-read h _ _ _ _ o g.0 g.1 c.size_at-z.ensures in
-    let has : Has (λ h. Live h c.args.c.0 c.size_at-z.result) (arena_words c.args.a.now) c.args.r.now = let p = c.requires.3 in record { heap = p.heap; ok = p.ok; holds = live p.heap p.ok p.holds } in
+    let has : Has (λ h. Live h c.args.c.0 c.size_at-z.result) (arena_words c.args.a.now) c.args.r.now = let p = c.requires in record { heap = p.heap; ok = p.ok; holds = live p.heap p.ok p.holds } in
     let p = has in
-    (c.requires.0, c.requires.1, record { heap = p.heap; ok = p.ok; holds = top-grows _ _ _ _ _ _ p.ok p.holds c.if-b-z.false _ c.top_reaches.ensures c.if-top_reaches.true })
+    record { heap = p.heap; ok = p.ok; holds = top-grows _ _ _ _ _ _ p.ok p.holds c.if-b-z.false _ c.top_reaches.ensures c.if-top_reaches.true }
 
 pub overflow_cast-result-then-top_reaches : goal.overflow_cast-result-then-top_reaches
 overflow_cast-result-then-top_reaches c =
-    let inside : Inside (length c.args.a.now) c.args.c.0 = loose-inside _ _ _ c.requires.3.ok _ c.requires.3.holds.1 in
+    let inside : Inside (length c.args.a.now) c.args.c.0 = loose-inside _ _ _ c.requires.ok _ c.requires.holds.1 in
     let k = inside in record { fits = omega arith }
 
 pub returns-then-top_reaches : goal.returns-then-top_reaches
@@ -67,27 +67,24 @@ returns-then-top_reaches c =
 pub behind_reaches-requires : goal.behind_reaches-requires
 behind_reaches-requires c =
     let live : (h : Heap) → Ok h (arena_words c.args.a.now) c.args.r.now → Good h × Loose h c.args.c.0 → Live h c.args.c.0 c.size_at-z.result = λ h o g. live-read h _ _ _ _ o g.0 g.1 c.size_at-z.ensures in
-    let has : Has (λ h. Live h c.args.c.0 c.size_at-z.result) (arena_words c.args.a.now) c.args.r.now = let p = c.requires.3 in record { heap = p.heap; ok = p.ok; holds = live p.heap p.ok p.holds } in
+    let has : Has (λ h. Live h c.args.c.0 c.size_at-z.result) (arena_words c.args.a.now) c.args.r.now = let p = c.requires in record { heap = p.heap; ok = p.ok; holds = live p.heap p.ok p.holds } in
     has
 
 pub take_in-requires : goal.take_in-requires
 take_in-requires c =
     let live : (h : Heap) → Ok h (arena_words c.args.a.now) c.args.r.now → Good h × Loose h c.args.c.0 → Live h c.args.c.0 c.size_at-z.result = λ h o g. live-read h _ _ _ _ o g.0 g.1 c.size_at-z.ensures in
-    let has : Has (λ h. Live h c.args.c.0 c.size_at-z.result) (arena_words c.args.a.now) c.args.r.now = let p = c.requires.3 in record { heap = p.heap; ok = p.ok; holds = live p.heap p.ok p.holds } in
-    let p = has in (
-      c.requires.0,
-      c.requires.1,
-      record {
-        heap = p.heap;
-        ok = p.ok;
-        holds = behind-reaches _ _ _ _ _ _ p.ok p.holds c.if-b-z.false _ c.top_reaches.ensures c.if-top_reaches.false _
-            (c.behind_reaches.ensures _ p.ok p.holds) c.if-behind_reaches.true;
-      },
-    )
+    let has : Has (λ h. Live h c.args.c.0 c.size_at-z.result) (arena_words c.args.a.now) c.args.r.now = let p = c.requires in record { heap = p.heap; ok = p.ok; holds = live p.heap p.ok p.holds } in
+    let p = has in
+    record {
+      heap = p.heap;
+      ok = p.ok;
+      holds = behind-reaches _ _ _ _ _ _ p.ok p.holds c.if-b-z.false _ c.top_reaches.ensures c.if-top_reaches.false _
+          (c.behind_reaches.ensures _ p.ok p.holds) c.if-behind_reaches.true;
+    }
 
 pub overflow_cast-result-then-behind_reaches : goal.overflow_cast-result-then-behind_reaches
 overflow_cast-result-then-behind_reaches c =
-    let inside : Inside (length c.args.a.now) c.args.c.0 = loose-inside _ _ _ c.requires.3.ok _ c.requires.3.holds.1 in
+    let inside : Inside (length c.args.a.now) c.args.c.0 = loose-inside _ _ _ c.requires.ok _ c.requires.holds.1 in
     let k = inside in record { fits = omega arith }
 
 pub returns-then-behind_reaches : goal.returns-then-behind_reaches
@@ -103,8 +100,8 @@ returns-then-behind_reaches c =
 pub seek_block-requires : goal.seek_block-requires
 seek_block-requires c =
     let live : (h : Heap) → Ok h (arena_words c.args.a.now) c.args.r.now → Good h × Loose h c.args.c.0 → Live h c.args.c.0 c.size_at-z.result = λ h o g. live-read h _ _ _ _ o g.0 g.1 c.size_at-z.ensures in
-    let has : Has (λ h. Live h c.args.c.0 c.size_at-z.result) (arena_words c.args.a.now) c.args.r.now = let p = c.requires.3 in record { heap = p.heap; ok = p.ok; holds = live p.heap p.ok p.holds } in
-    (c.requires.0, c.requires.1, c.requires.2, c.if-b-z.false, has)
+    let has : Has (λ h. Live h c.args.c.0 c.size_at-z.result) (arena_words c.args.a.now) c.args.r.now = let p = c.requires in record { heap = p.heap; ok = p.ok; holds = live p.heap p.ok p.holds } in
+    (c.if-b-z.false, has)
 
 pub returns : goal.returns
 returns c =

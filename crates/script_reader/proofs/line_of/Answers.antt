@@ -1,17 +1,19 @@
--- `script_reader::line_of` meets its contract: by the number of bytes, and then by the second. Assumes nothing.
-use mathlib.Core.Path.{sym, ◌∙◌}
-use native.Mathlib.Omega.{arith}
-use Rattle.script_reader.proofs.Reading.{line-none, line-one, line_other, line-spaced}
+-- `script_reader::line_of` meets its contract: by the number of bytes, and then by the one that decides.
+use Rattle.std.proofs.Common.{sym, ◌∙◌, arith}
+use Rattle.script_reader.proofs.Reading.{line-none, line-one, line_other, line-spaced, alone-settle, alone-other}
 use Rattle.script_reader.proofs.line_of.Goals as goal
 
-pub returns-then-t-eq0 : goal.returns-then-t-eq0
-returns-then-t-eq0 c = sym (line-none _ c.if-t-eq0.true)
+pub returns-in-len1 : goal.returns-in-len1
+returns-in-len1 c = alone-settle _ c.if-x-eq83.true ∙ sym (line-one _ (omega (arith, c.in-len1.len_at_least, c.in-len1.len_below)))
 
-pub returns-then-t-eq1 : goal.returns-then-t-eq1
-returns-then-t-eq1 c = c.line_alone.ensures ∙ sym (line-one _ c.if-t-eq1.true)
+pub returns-in-len2-up : goal.returns-in-len2-up
+returns-in-len2-up c = c.line_spaced.ensures ∙ sym (line-spaced _ c.in-len2-up.len_at_least c.if-y-eq32.true)
 
-pub returns-then-t-ne32 : goal.returns-then-t-ne32
-returns-then-t-ne32 c = sym (line_other _ (omega (arith, c.if-t-eq0.false, c.if-t-eq1.false)) c.if-t-ne32.true)
+pub returns-in_default : goal.returns-in_default
+returns-in_default c = sym (line-none _ (omega (arith, c.in_default.len_below)))
 
-pub returns : goal.returns
-returns c = c.line_spaced.ensures ∙ sym (line-spaced _ (omega (arith, c.if-t-eq0.false, c.if-t-eq1.false)) c.if-t-ne32.false)
+pub returns-in_default-2 : goal.returns-in_default-2
+returns-in_default-2 c = alone-other _ c.if-x-eq83.false ∙ sym (line-one _ (omega (arith, c.in-len1.len_at_least, c.in-len1.len_below)))
+
+pub returns-in_default-3 : goal.returns-in_default-3
+returns-in_default-3 c = sym (line_other _ c.in-len2-up.len_at_least c.if-y-eq32.false)

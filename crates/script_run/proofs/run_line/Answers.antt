@@ -1,4 +1,5 @@
 -- `script_run::run_line` meets its contract: a line in its place is run; any other prints its number. Assumes nothing.
+use borrow.Author.Rules.{rules}
 use mathlib.Core.Path.{sym, ◌∙◌}
 use native.Mathlib.Omega.{arith}
 use lib.ListN.{take}
@@ -14,4 +15,4 @@ pub returns-then-in_place : goal.returns-then-in_place
 returns-then-in_place c = record { out_after = placed (take c.args.log.printed c.args.out.now) _ _ _ _ _ _ c.count-k.ensures c.line_read-line.ensures (sym c.in_place.ensures ∙ c.if-in_place.true) c.length_of-n.ensures c.run_placed.ensures.out_after; within = c.run_placed.ensures.within }
 
 pub returns : goal.returns
-returns c = record { out_after = questioned (take c.args.log.printed c.args.out.now) _ _ _ _ _ _ c.count-k.ensures c.line_read-line.ensures (sym c.in_place.ensures ∙ c.if-in_place.false) c.no_bytes-text.ensures c.put_question-printed.ensures.out_after; within = record { opens = c.requires.opened_bound; prints = omega (arith, c.put_question-printed.ensures.upper_bound) } }
+returns c = record { out_after = questioned (take c.args.log.printed c.args.out.now) _ _ _ _ _ _ c.count-k.ensures c.line_read-line.ensures (sym c.in_place.ensures ∙ c.if-in_place.false) c.no_bytes.ensures (search rules); within = record { opens = c.requires.opened_bound; prints = omega (arith, c.question.ensures.within) } }

@@ -1,13 +1,12 @@
 -- `look_with`: the audit, and then what its marks say of the block. Assumes nothing.
-use mathlib.Core.Path.{sym, ◌∙◌}
-use Rattle.audit.specs.Looks.{look-faulty, look-live, look-dead}
+use Rattle.std.proofs.lemmas.Result.{err_from_is_err_and}
+use Rattle.audit.specs.Looks.{look-faulty, look-sound}
 use Rattle.audit.proofs.call_look.look_with.Goals as goal
 
-pub returns-then-not-is_sound : goal.returns-then-not-is_sound
-returns-then-not-is_sound c = look-faulty _ _ _ _ _ _ c.audit_marks-f.ensures (sym c.is_sound.ensures ∙ c.if-not-is_sound.true)
-
-pub returns-then-is_live : goal.returns-then-is_live
-returns-then-is_live c = look-live _ _ _ _ _ _ _ c.audit_marks-f.ensures (sym c.is_sound.ensures ∙ c.if-not-is_sound.false) c.is_live.ensures c.if-is_live.true
+pub returns-in_err-audit_marks : goal.returns-in_err-audit_marks
+returns-in_err-audit_marks c =
+    let p = err_from_is_err_and c.from_residual.result c.from_residual.ensures.1 in
+    rw (p.1, p.2) (look-faulty _ _ _ _ _ _ c.in_err-audit_marks.ensures)
 
 pub returns : goal.returns
-returns c = look-dead _ _ _ _ _ _ _ c.audit_marks-f.ensures (sym c.is_sound.ensures ∙ c.if-not-is_sound.false) c.is_live.ensures c.if-is_live.false
+returns c = look-sound _ _ _ _ _ _ c.in_ok-audit_marks.ensures c.is_live.ensures

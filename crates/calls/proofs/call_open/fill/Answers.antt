@@ -1,14 +1,13 @@
--- `fill` writes a blank record. The invariant: the counts passed are 0, and nothing else was written; the key and the edition come last. Assumes nothing.
-use Prim.Native.Nat.{◌/◌, ◌%◌, ◌^◌}
-use mathlib.Core.Path.{◌≡◌, refl, ◌∙◌, ap}
-use mathlib.Core.List.{List}
-use Prim.Native.Nat.{ℕ}
-use native.Mathlib.Numerals.{add-one}
-use native.Mathlib.Omega.{arith}
-use lib.ListN.{set, length-set}
-use borrow.Author.Rules.{rules}
-use Rattle.calls.specs.Blank.{empty-length, zeroed, zeroed-blank}
+-- `fill` writes a blank record: length and top, the counts in one stretch, then the key and the edition. Assumes nothing.
+use Rattle.std.proofs.Common.{rules, ◌≡◌, refl, ap, ◌∙◌, ℕ, ◌/◌, ◌%◌, ◌^◌, List, length, replicate, arith, length-set}
+use lib.ListN.{set}
+use borrow.Rule.Slice.PartMut.{put_mid}
+use Rattle.calls.specs.Blank.{empty, empty-length, zeroed, zeroed-blank}
 use Rattle.calls.proofs.call_open.fill.Goals as goal
+
+counts-zeroed : (n t : ℕ) → put_mid 67 64 (set (set empty 0 n) 1 t) (replicate 64 0) ≡ zeroed 64 (set (set empty 0 n) 1 t)
+unfolding zeroed empty
+counts-zeroed n t = refl
 
 pub bounds-r-0 : goal.bounds-r-0
 bounds-r-0 c = omega (arith, empty-length _ c.requires)
@@ -16,29 +15,24 @@ bounds-r-0 c = omega (arith, empty-length _ c.requires)
 pub bounds-r-1 : goal.bounds-r-1
 bounds-r-1 c = simp length-set (omega (arith, empty-length _ c.requires))
 
-pub loop-k-init : goal.loop-k-init
-unfolding zeroed
-loop-k-init c = (omega arith, simp length-set (empty-length _ c.requires), refl)
-
-pub loop-k-preserved : goal.loop-k-preserved
-unfolding zeroed
-loop-k-preserved c = (search rules, search rules, rw add-one (cc))
+pub slice_bounds-fill-end : goal.slice_bounds-fill-end
+slice_bounds-fill-end c = let e = empty-length _ c.requires in search rules
 
 pub set_key_in-requires : goal.set_key_in-requires
-set_key_in-requires c = c.loop-k.invariant.1
+set_key_in-requires c = let e = empty-length _ c.requires in search rules
 
 pub bounds-r-395 : goal.bounds-r-395
-bounds-r-395 c = omega (arith, c.set_key_in.auto.r, c.loop-k.invariant.1)
-
-pub shape_of-r : goal.shape_of-r
-shape_of-r c = simp length-set (omega (arith, c.set_key_in.auto.r, c.loop-k.invariant.1, empty-length _ c.requires))
+bounds-r-395 c =
+    let e = empty-length _ c.requires in
+    let l : length (put_mid 67 64 (set (set c.args.r.now 0 c.args.n) 1 c.args.t) c.fill.new.self) ≡ 396 = search rules in
+    omega (arith, c.set_key_in.auto.r, l)
 
 pub returns : goal.returns
 returns c =
-    let h = c.loop-k in
-    let chosen : List ℕ → List ℕ = λ l. set (set (set l 393 (c.args.key % 2 ^ 32)) 394 (c.args.key / 2 ^ 32)) 395 c.args.edition in
-    let e : h.k ≡ 64 = omega arith in
-    ap (λ (l : List ℕ). set l 395 c.args.edition) c.set_key_in.ensures
-    ∙ ap chosen (h.invariant.2 ∙ ap (λ (i : ℕ). zeroed i (set (set c.args.r.now 0 c.args.n) 1 c.args.t)) e
-    ∙ ap (λ (l : List ℕ). zeroed 64 (set (set l 0 c.args.n) 1 c.args.t)) c.requires)
+    let f : c.fill.new.self ≡ replicate 64 0 = search rules in
+    let ends : List ℕ → List ℕ = λ l. set (set (set l 393 (c.args.key % 2 ^ 32)) 394 (c.args.key / 2 ^ 32)) 395 c.args.edition in
+    ap (λ l. set l 395 c.args.edition) c.set_key_in.ensures
+    ∙ ap (λ l. ends (put_mid 67 64 (set (set l 0 c.args.n) 1 c.args.t) c.fill.new.self)) c.requires
+    ∙ ap (λ z. ends (put_mid 67 64 (set (set empty 0 c.args.n) 1 c.args.t) z)) f
+    ∙ ap ends (counts-zeroed c.args.n c.args.t)
     ∙ zeroed-blank c.args.n c.args.t c.args.key c.args.edition

@@ -7,4 +7,4 @@ pub returns-then-v-eq-NONE32 : goal.returns-then-v-eq-NONE32
 returns-then-v-eq-NONE32 c = rw (eq-eqb _ _ c.if-v-eq-NONE32.true, up)
 
 pub returns : goal.returns
-returns c = rw (ne_eqb _ _ c.if-v-eq-NONE32.false, up)
+returns c = rw (ne_eqb _ _ c.if-v-eq-NONE32.false, up) c.from.ensures

@@ -11,10 +11,10 @@ pub loop-r-init : goal.loop-r-init
 loop-r-init c = (refl, refl, way-here (move_heads _) _ _)
 
 pub bounds-r-f : goal.bounds-r-f
-bounds-r-f c = omega (arith, c.loop-r.invariant.1, c.fast_list-f.ensures.1, ok-length _ _ _ c.requires.3.ok)
+bounds-r-f c = omega (arith, c.loop-r.invariant.1, c.fast_list-f.ensures.1, ok-length _ _ _ c.requires.1.ok)
 
 pub bounds-r-k : goal.bounds-r-k
-bounds-r-k c = omega (arith, c.loop-r.invariant.1, c.cache_list-k.ensures.1, ok-length _ _ _ c.requires.3.ok)
+bounds-r-k c = omega (arith, c.loop-r.invariant.1, c.cache_list-k.ensures.1, ok-length _ _ _ c.requires.1.ok)
 
 pub shape_of-a-then-r-k-ge-CACHE_ROOM : goal.shape_of-a-then-r-k-ge-CACHE_ROOM
 shape_of-a-then-r-k-ge-CACHE_ROOM c = c.loop-r.invariant.0
@@ -24,29 +24,29 @@ shape_of-r-then-r-k-ge-CACHE_ROOM c = c.loop-r.invariant.1
 
 pub returns-then-r-k-ge-CACHE_ROOM : goal.returns-then-r-k-ge-CACHE_ROOM
 returns-then-r-k-ge-CACHE_ROOM c =
-    heads-stop c.args.b _ c.requires.0 c.requires.1 c.requires.2 c.fast_list-f.ensures.0 _ _ _ _ c.loop-r.invariant.2 _ c.cache_list-k.ensures.0 c.if-r-k-ge-CACHE_ROOM.true
+    heads-stop c.args.b.bytes _ c.args.b.whole c.args.b.least c.requires.0 c.fast_list-f.ensures.0 _ _ _ _ c.loop-r.invariant.2 _ c.cache_list-k.ensures.0 c.if-r-k-ge-CACHE_ROOM.true
 
 pub take_fast-c-requires : goal.take_fast-c-requires
 take_fast-c-requires c =
-    (omega (arith, c.fast_list-f.ensures.1), heads-has c.args.b _ c.requires.0 c.requires.1 c.requires.2 c.fast_list-f.ensures.0 _ _ _ _ c.loop-r.invariant.2 c.loop-r-test.true c.requires.3)
+    (omega (arith, c.fast_list-f.ensures.1), heads-has c.args.b.bytes _ c.args.b.whole c.args.b.least c.requires.0 c.fast_list-f.ensures.0 _ _ _ _ c.loop-r.invariant.2 c.loop-r-test.true c.requires.1)
 
 pub push_cache-requires : goal.push_cache-requires
 push_cache-requires c = (
   c.cache_list-k.ensures.1,
-  heads-push c.args.b _ c.requires.0 c.requires.1 c.requires.2 c.fast_list-f.ensures.0 _ _ _ _ c.loop-r.invariant.2 c.loop-r-test.true _ _ c.take_fast-c.ensures
-      _ c.cache_list-k.ensures.0 c.if-r-k-ge-CACHE_ROOM.false c.requires.3,
+  heads-push c.args.b.bytes _ c.args.b.whole c.args.b.least c.requires.0 c.fast_list-f.ensures.0 _ _ _ _ c.loop-r.invariant.2 c.loop-r-test.true _ _ c.take_fast-c.ensures
+      _ c.cache_list-k.ensures.0 c.if-r-k-ge-CACHE_ROOM.false c.requires.1,
 )
 
 pub loop-r-smaller : goal.loop-r-smaller
 loop-r-smaller c =
-    heads-less c.args.b _ c.requires.0 c.requires.1 c.requires.2 c.fast_list-f.ensures.0 _ _ _ _ c.loop-r.invariant.2 c.loop-r-test.true _ _ c.take_fast-c.ensures
-    _ c.cache_list-k.ensures.0 c.if-r-k-ge-CACHE_ROOM.false _ _ c.push_cache.ensures c.requires.3
+    heads-less c.args.b.bytes _ c.args.b.whole c.args.b.least c.requires.0 c.fast_list-f.ensures.0 _ _ _ _ c.loop-r.invariant.2 c.loop-r-test.true _ _ c.take_fast-c.ensures
+    _ c.cache_list-k.ensures.0 c.if-r-k-ge-CACHE_ROOM.false _ _ c.push_cache.ensures c.requires.1
 
 pub loop-r-preserved : goal.loop-r-preserved
 loop-r-preserved c = (
   c.push_cache.auto.a ∙ c.loop-r.invariant.0,
   c.push_cache.auto.r ∙ c.take_fast-c.auto.r ∙ c.loop-r.invariant.1,
-  heads-again c.args.b _ c.requires.0 c.requires.1 c.requires.2 c.fast_list-f.ensures.0 _ _ _ _ c.loop-r.invariant.2 c.loop-r-test.true _ _ c.take_fast-c.ensures
+  heads-again c.args.b.bytes _ c.args.b.whole c.args.b.least c.requires.0 c.fast_list-f.ensures.0 _ _ _ _ c.loop-r.invariant.2 c.loop-r-test.true _ _ c.take_fast-c.ensures
       _ c.cache_list-k.ensures.0 c.if-r-k-ge-CACHE_ROOM.false _ _ c.push_cache.ensures,
 )
 
@@ -58,4 +58,4 @@ shape_of-r c = c.loop-r.invariant.1
 
 pub returns : goal.returns
 returns c =
-    heads-end c.args.b _ c.requires.0 c.requires.1 c.requires.2 c.fast_list-f.ensures.0 _ _ _ _ c.loop-r.invariant.2 c.loop-r-test.false
+    heads-end c.args.b.bytes _ c.args.b.whole c.args.b.least c.requires.0 c.fast_list-f.ensures.0 _ _ _ _ c.loop-r.invariant.2 c.loop-r-test.false

@@ -10,7 +10,7 @@ use Rattle.grant_steps_1_3.specs.Moves.{move_heads}
 use Rattle.grant_steps_1_3.proofs.step_2.move_fast.Given as goal
 
 abbrev pub invariant-loop-r : goal.invariant-loop-r
-invariant-loop-r l = (length l.a ≡ length l.initial.a) × (length l.r ≡ length l.initial.r) × Way (Unit {0}) (move_heads l.b) (move_heads l.b) (arena_words l.initial.a) l.initial.r (arena_words l.a) l.r
+invariant-loop-r l = (length l.a ≡ length l.initial.a) × (length l.r ≡ length l.initial.r) × Way (Unit {0}) (move_heads l.fn.b.bytes) (move_heads l.fn.b.bytes) (arena_words l.initial.a) l.initial.r (arena_words l.a) l.r
 
 abbrev pub decreases-loop-r : goal.decreases-loop-r
 decreases-loop-r l = cache_room - get_or l.r (cache_count l.k) 0

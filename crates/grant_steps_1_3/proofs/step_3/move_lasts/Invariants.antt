@@ -10,7 +10,7 @@ use Rattle.grant_steps_1_3.specs.Moves.{move_rest}
 use Rattle.grant_steps_1_3.proofs.step_3.move_lasts.Given as goal
 
 abbrev pub invariant-loop-r : goal.invariant-loop-r
-invariant-loop-r l = (length l.a ≡ length l.initial.a) × (length l.r ≡ length l.initial.r) × Way (Unit {0}) (move_rest l.b) (move_rest l.b) (arena_words l.initial.a) l.initial.r (arena_words l.a) l.r
+invariant-loop-r l = (length l.a ≡ length l.initial.a) × (length l.r ≡ length l.initial.r) × Way (Unit {0}) (move_rest l.b.bytes) (move_rest l.b.bytes) (arena_words l.initial.a) l.initial.r (arena_words l.a) l.r
 
 abbrev pub decreases-loop-r : goal.decreases-loop-r
 decreases-loop-r l = cache_room - get_or l.r (cache_count l.list) 0

@@ -6,7 +6,7 @@ use Rattle.grant_steps_6_7.specs.Finds.{Back, left}
 use Rattle.grant_steps_6_7.proofs.step_6.least_fit.Given as goal
 
 abbrev pub invariant-loop-c : goal.invariant-loop-c
-invariant-loop-c l = (h : Heap) → Ok h (arena_words l.a) l.r → Back h l.j l.b l.c.0
+invariant-loop-c l = (h : Heap) → Ok h (arena_words l.a) l.r → Back h l.j l.b.bytes l.c.0
 
 abbrev pub decreases-loop-c : goal.decreases-loop-c
 decreases-loop-c l = left (arena_words l.a) l.c.0

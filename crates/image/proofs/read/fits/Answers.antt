@@ -27,12 +27,12 @@ returns-then-file-record_bytes c =
     let e : record_bytes_by c.args.v ≡ record_bytes_by (version_in c.args.file.now) = ap record_bytes_by c.requires in
     not-fits c.args.file.now c.args.arena.now c.args.control.now (λ F. c.if-file-record_bytes.true (omega (arith, F.file, c.record_bytes.ensures, e)))
 
-pub read4-requires : goal.read4-requires
-read4-requires c = omega (arith, c.record_bytes.ensures, (by_most c.args.v).0, c.if-file-record_bytes.false)
+pub read-requires : goal.read-requires
+read-requires c = omega (arith, c.record_bytes.ensures, (by_most c.args.v).0, c.if-file-record_bytes.false)
 
 pub returns : goal.returns
 returns c =
     let e : record_bytes_by c.args.v ≡ record_bytes_by (version_in c.args.file.now) = ap record_bytes_by c.requires in
-    ap (λ (n : ℕ). eqb n (length c.args.arena.now)) c.read4.ensures
+    ap (λ (n : ℕ). eqb n (length c.args.arena.now)) c.read.ensures
     ∙ fits_last c.args.file.now c.args.arena.now c.args.control.now (sym c.shaped.ensures ∙ c.if-not-shaped.false)
     (omega (arith, c.if-file-record_bytes.false, c.record_bytes.ensures, e))

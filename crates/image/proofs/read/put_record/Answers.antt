@@ -3,17 +3,20 @@ use mathlib.Core.Path.{◌∙◌}
 use Prim.Native.Nat.{◌-◌}
 use native.Mathlib.Omega.{arith}
 use lib.ListN.{length, length-take, length-drop}
+use borrow.Author.Rules.{rules}
 use Rattle.le.specs.Number.{digits}
 use Rattle.image.specs.Image.{lacked_record}
 use Rattle.image.specs.Ways.{record-completed, drop-whole}
 use Rattle.image.proofs.read.put_record.Goals as goal
 
-pub put_bytes-requires : goal.put_bytes-requires
-put_bytes-requires c = simp (length-take, length-drop) (omega (arith, c.put_bytes-n.ensures.value, c.put_bytes-n.auto.out))
+pub bytes-requires-2 : goal.bytes-requires-2
+bytes-requires-2 c = simp (length-take, length-drop) (omega (arith, c.bytes.ensures.exact, c.bytes.ensures.adds.room))
 
 pub returns : goal.returns
 unfolding digits
 returns c =
-    let a = c.put_bytes-n.ensures in
-    record-completed c.args.part.now _ _ _ _ _ (c.put_bytes.auto.out ∙ c.put_bytes-n.auto.out ∙ c.requires.0) c.requires.1 c.requires.2 (a.value ∙ omega arith) c.put_bytes.ensures.value
-    (drop-whole (length c.args.part.now - 1572) lacked_record) a.out_after c.put_bytes.ensures.out_after
+    let a = c.bytes.ensures in
+    let b = c.bytes-2.ensures in
+    let told = record-completed c.args.part.now _ _ _ _ _ (b.adds.room ∙ a.adds.room ∙ c.requires.0) c.requires.1 c.requires.2 (a.exact ∙ omega arith) b.exact
+    (drop-whole (length c.args.part.now - 1572) lacked_record) a.adds.written b.adds.written in
+    search rules

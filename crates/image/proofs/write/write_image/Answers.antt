@@ -4,6 +4,8 @@ use mathlib.Core.Bool.{true}
 use Prim.Native.Nat.{◌≤◌}
 use native.Mathlib.Omega.{arith}
 use lib.ListN.{length}
+use borrow.Author.Rules.{rules}
+use Rattle.le.specs.WordsLaws.{le_bytes-digits}
 use Rattle.machine.specs.Calls.{shape?}
 use Rattle.calls.specs.Ways.{allowed-true, shape-long, shape-allowed}
 use Rattle.image.specs.Ways.{write_shape, write-length, write_done, parts-image}
@@ -21,14 +23,14 @@ overflow_cast-arena c =
     let most : length c.args.arena.now ≤ 262144 = (allowed-true (length c.args.arena.now) (shape-allowed c.args.arena.now c.args.control.now (shape))).2 in
     omega (arith, most)
 
-pub put_bytes-a3-requires : goal.put_bytes-a3-requires
-put_bytes-a3-requires c =
+pub bytes-requires-4 : goal.bytes-requires-4
+bytes-requires-4 c =
     let shape : shape? c.args.arena.now c.args.control.now ≡ true = sym c.shaped.ensures ∙ c.if-not-shaped.false in
     let long : length c.args.control.now ≡ 1584 = shape-long c.args.arena.now c.args.control.now (shape) in
     omega (arith, long)
 
-pub put_bytes-requires : goal.put_bytes-requires
-put_bytes-requires c =
+pub bytes-requires-5 : goal.bytes-requires-5
+bytes-requires-5 c =
     let shape : shape? c.args.arena.now c.args.control.now ≡ true = sym c.shaped.ensures ∙ c.if-not-shaped.false in
     let long : length c.args.control.now ≡ 1584 = shape-long c.args.arena.now c.args.control.now (shape) in
     omega (arith, long)
@@ -37,6 +39,6 @@ pub returns : goal.returns
 returns c =
     let shape : shape? c.args.arena.now c.args.control.now ≡ true = sym c.shaped.ensures ∙ c.if-not-shaped.false in
     let s = c.args in
-    write_done s.arena.now s.control.now s.file.now c.put_bytes.result _ (shape) (omega (arith, c.if-file-arena.false)) (c.put_bytes.auto.out ∙ c.put_bytes-a3.auto.out ∙ c.put_bytes-a2.auto.out ∙ c.put_bytes-a1.auto.out ∙ c.put_bytes-a0.auto.out)
-    (parts-image _ _ c.bytes2-v.ensures c.bytes4-n.ensures
-    c.put_bytes-a0.ensures.out_after c.put_bytes-a1.ensures.out_after c.put_bytes-a2.ensures.out_after c.put_bytes-a3.ensures.out_after c.put_bytes.ensures.out_after)
+    let told = parts-image _ _ (c.to_le_bytes-v.ensures ∙ le_bytes-digits 2 _) (c.to_le_bytes-n.ensures ∙ le_bytes-digits 4 _)
+    c.bytes.ensures.adds.written c.bytes-2.ensures.adds.written c.bytes-3.ensures.adds.written c.bytes-4.ensures.adds.written c.bytes-5.ensures.adds.written in
+    write_done s.arena.now s.control.now s.file.now c.bytes-5.new.self.at _ (shape) (omega (arith, c.if-file-arena.false)) (search rules) (search rules)

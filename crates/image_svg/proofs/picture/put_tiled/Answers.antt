@@ -5,4 +5,4 @@ use Rattle.image_svg.proofs.picture.put_tiled.Goals as goal
 
 pub returns : goal.returns
 returns c =
-    record { upper_bound = search rules; has_rects = rects-in c.args.v c.args.a.now c.args.r.now _ c.put_bytes-a1.ensures.out_after c.put_reached-a2.ensures.out_after c.put_bytes.ensures.out_after }
+    record { grows = search rules; has_rects = rects-in c.args.v c.args.a.now c.args.r.now _ c.bytes.ensures.adds.written c.put_reached.ensures.written c.bytes-2.ensures.adds.written }

@@ -7,7 +7,11 @@ use Rattle.image_text.proofs.Lines.{LinesIn}
 use Rattle.image_text.proofs.tiles.put_tiles.Given as goal
 
 abbrev pub invariant-loop-o : goal.invariant-loop-o
-invariant-loop-o l = (length l.out ≡ length l.initial.out) × LinesIn l.form (arena_words l.a) l.m (length l.a) l.top l.from l.at l.o (take l.from l.initial.out) (take l.at l.out)
+invariant-loop-o l =
+    let before = l.initial.page in
+    (length l.page.out.now ≡ length before.out.now)
+    × (l.page.out.ghost_name ≡ before.out.ghost_name)
+    × LinesIn l.form (arena_words l.a) l.m (length l.a) l.top before.at l.page.at l.o (take before.at before.out.now) (take l.page.at l.page.out.now)
 
 abbrev pub decreases-loop-o : goal.decreases-loop-o
 decreases-loop-o l = l.top - l.o

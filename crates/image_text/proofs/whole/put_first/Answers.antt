@@ -1,12 +1,11 @@
 -- `whole::put_first` meets its contract: the first line alone, or the edition's behind it. Assumes nothing.
-use borrow.Author.Rules.{rules}
+use Rattle.std.proofs.Common.{arith}
+use Rattle.text.proofs.Pages.{◌▹◌, adds-as}
 use Rattle.image_text.proofs.Heaps.{first_short, first-long}
 use Rattle.image_text.proofs.whole.put_first.Goals as goal
 
-pub returns-then-not-edition : goal.returns-then-not-edition
-returns-then-not-edition c =
-    record { upper_bound = search rules; out_after = first_short c.args.edition c.args.v c.args.n c.args.control.now (c.if-not-edition.true) c.put_head-at.ensures.out_after }
+pub returns-else-edition : goal.returns-else-edition
+returns-else-edition c = adds-as (omega arith) (first_short c.args.edition _ _ _ c.if-edition.false) c.put_head.ensures
 
-pub returns : goal.returns
-returns c =
-    record { upper_bound = search rules; out_after = first-long c.args.edition c.args.v c.args.n c.args.control.now (c.if-not-edition.false) c.put_head-at.ensures.out_after c.put_edition.ensures.out_after }
+pub returns-then-edition : goal.returns-then-edition
+returns-then-edition c = adds-as (omega arith) (first-long c.args.edition _ _ _ c.if-edition.true) (c.put_head.ensures ▹ c.put_edition.ensures)

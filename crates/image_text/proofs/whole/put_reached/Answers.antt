@@ -29,4 +29,4 @@ put_tiles-requires c =
 
 pub returns : goal.returns
 returns c =
-    record { upper_bound = c.put_tiles.ensures.upper_bound; out_after = c.put_tiles.ensures.by_index _ _ c.reach.ensures }
+    c.put_tiles.ensures.by_index _ _ c.reach.ensures

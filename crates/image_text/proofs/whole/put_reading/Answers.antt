@@ -1,30 +1,26 @@
 -- `whole::put_reading` meets its contract: a line for each refusal, or the heap. Assumes nothing.
-use borrow.Author.Rules.{rules}
+use mathlib.Core.Path.{refl, ap, ◌∙◌}
+use native.Mathlib.Omega.{arith}
+use Rattle.text.proofs.Pages.{adds-as}
+use Rattle.text.specs.Text.{question_text}
 use Rattle.image.specs.Image.{version_in}
 use Rattle.image_text.proofs.Lent.{text_of, heap-of}
 use Rattle.image_text.proofs.whole.put_reading.Goals as goal
 
-pub returns-in-NoMark : goal.returns-in-NoMark
-returns-in-NoMark c =
-    record { upper_bound = search rules; out_after = text_of c.args.edition (version_in c.args.file.now) c.args.arena.now c.args.control.now c.in-NoMark.is c.put_question.ensures.out_after }
-
-pub returns-in-NoVersion : goal.returns-in-NoVersion
-returns-in-NoVersion c =
-    record { upper_bound = search rules; out_after = text_of c.args.edition (version_in c.args.file.now) c.args.arena.now c.args.control.now c.in-NoVersion.is c.put_question-in-NoVersion.ensures.out_after }
-
-pub returns-in-WrongLength : goal.returns-in-WrongLength
-returns-in-WrongLength c =
-    record { upper_bound = search rules; out_after = text_of c.args.edition (version_in c.args.file.now) c.args.arena.now c.args.control.now c.in-WrongLength.is c.put_question-in-WrongLength.ensures.out_after }
+pub returns-in-Err : goal.returns-in-Err
+returns-in-Err c =
+    let n = c.from.ensures ∙ c.no.ensures in
+    adds-as (omega arith) (text_of c.args.edition (version_in c.args.file.now) c.args.arena.now c.args.control.now c.in-Err.is (ap question_text n)) c.question.ensures
 
 pub version_in-requires : goal.version_in-requires
 version_in-requires c =
-    (c.requires.in_bounds _ c.in-Read.is).0
+    (c.requires.in_bounds _ c.in-Ok.is).0
 
 pub put_heap-requires : goal.put_heap-requires
 put_heap-requires c =
-    let k = (c.requires.in_bounds _ c.in-Read.is).1 in
-    record { audited_by = rw c.version_in.ensures k; out_len = search rules }
+    let k = (c.requires.in_bounds _ c.in-Ok.is).1 in
+    record { audited_by = rw c.version_in.ensures k; room = c.requires.room }
 
-pub returns-in-Read : goal.returns-in-Read
-returns-in-Read c =
-    record { upper_bound = search rules; out_after = heap-of c.args.edition c.args.file.now c.args.arena.now c.args.control.now c.in-Read.is c.version_in.ensures c.put_heap.ensures.out_after }
+pub returns-in-Ok : goal.returns-in-Ok
+returns-in-Ok c =
+    adds-as (omega arith) (heap-of c.args.edition c.args.file.now c.args.arena.now c.args.control.now c.in-Ok.is c.version_in.ensures refl) c.put_heap.ensures

@@ -7,4 +7,4 @@ use Rattle.resize.proofs.in_place.trim.Goals as goal
 pub returns : goal.returns
 returns c =
     let s = c.args in
-    c.set_size.ensures ∙ ap (put (size (s.c.0 + s.b) (s.z - s.b) 1)) c.set_own_size.ensures
+    c.set_size.ensures ∙ ap (put (size (s.c.0 + s.b.bytes) (s.z - s.b.bytes) 1)) c.set_own_size.ensures

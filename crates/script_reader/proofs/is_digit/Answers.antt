@@ -1,9 +1,0 @@
--- `script_reader::is_digit` meets its contract: both tests, one after the other. Assumes nothing.
-use borrow.Author.Tests.{le-leb, lt-leb}
-use Rattle.script_reader.proofs.is_digit.Goals as goal
-
-pub returns-then-b-lt48 : goal.returns-then-b-lt48
-returns-then-b-lt48 c = simp (lt-leb _ _ c.if-b-lt48.true)
-
-pub returns : goal.returns
-returns c = simp (le-leb _ _ c.if-b-lt48.false)
