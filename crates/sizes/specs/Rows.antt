@@ -7,9 +7,16 @@ use Rattle.sizes.specs.declared.bins.Row.{Row}
 use Rattle.sizes.specs.Sizes.{rows, first_line}
 use Rattle.sizes.specs.BinSizes.{least_of, least_of-comes, least_of-is}
 
--- row i of the five
+-- row i of some rows, and of the five
+abbrev pub row_of : List Row → ℕ → Row
+row_of rs i = get_or rs i (record { divisor = 0; limit = 0; base = 0 })
+
 abbrev pub row_at : ℕ → Row
-row_at i = get_or rows i (record { divisor = 0; limit = 0; base = 0 })
+row_at i = row_of rows i
+
+-- what is read as row i of rows that are these five
+pub row-read : (i : ℕ) {rs : List Row} → rs ≡ rows → row_of rs i ≡ row_at i
+row-read i e = rw e refl
 
 -- the bin that a line gives, where it applies
 abbrev pub bin_on : Row → ℕ → Option ℕ

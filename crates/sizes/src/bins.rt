@@ -1,6 +1,6 @@
 // The bin of a chunk size: from the table below 16,384, by document 01's lines from there on; and the least size of a bin. Assumes nothing.
 ghost use Rattle.std.specs.Prelude.{◌≡◌, ◌+◌, ◌*◌, ◌≤◌, ◌<◌, ◌^◌};
-ghost use Rattle.sizes.specs.Sizes.{large_bin, bin_of};
+ghost use Rattle.sizes.specs.Sizes.{rows, large_bin, bin_of};
 ghost use Rattle.sizes.specs.Rows.{bin_on, least_on};
 ghost use Rattle.sizes.specs.BinSizes.{least_of};
 
@@ -44,6 +44,13 @@ const ROWS: [Row; 5] = [
     },
 ];
 
+// The lines are read here alone, and held against the definition's.
+fn rows() -> [Row; 5]
+    ensures { result ≡ rows }
+{
+    ROWS
+}
+
 // The bin that a line gives, where it applies.
 fn bin_on(row: Row, s: u64) -> Option<u64>
     requires { (0 < row.divisor) × (row.base + row.limit ≤ 126) }
@@ -60,7 +67,7 @@ fn bin_on(row: Row, s: u64) -> Option<u64>
 fn large_bin(s: u64) -> u64
     ensures { result ≡ large_bin s }
 {
-    for row in ROWS {
+    for row in rows() {
         if let Some(bin) = bin_on(row, s) {
             return bin;
         }
@@ -98,7 +105,7 @@ pub fn least_of_bin(j: usize) -> u64
         return 16 * k;
     }
     let mut begins = LARGE;
-    for row in ROWS {
+    for row in rows() {
         if let Some(least) = least_on(row, begins, k) {
             return least;
         }
