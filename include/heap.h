@@ -281,7 +281,8 @@
  * arena's length. No call is recursive, none takes memory from elsewhere, and
  * none calls back.
  *
- * libheap.a is x86-64 code by the System V calling convention.
+ * libheap.a is x86-64 code by the System V calling convention. From whoever
+ * links it, it needs memcpy and memset, and nothing else.
  */
 #ifndef HEAP_H
 #define HEAP_H

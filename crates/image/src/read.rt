@@ -12,7 +12,7 @@ ghost use Rattle.image.specs.Completed.{Old};
 use crate::{LENGTH_AT, RECORD_AT, RECORD_BYTES_1, Unread, VERSION, VERSION_AT, record_bytes};
 use machine::Fault;
 use sizes::MOST_ARENA;
-use text::Page;
+use text::{Page, put_bytes};
 
 fn marked(file: &[u8]) -> bool
     ensures { result ≡ marked? file.now }
@@ -151,6 +151,6 @@ pub fn read_image(
     }
     let at = RECORD_AT + record_bytes(v);
     put_record(control, &file[RECORD_AT..at]);
-    arena.copy_from_slice(&file[at..]);
+    put_bytes(arena, &file[at..]);
     heap_read(arena, control, v)
 }

@@ -54,14 +54,14 @@ put_record-requires c =
     let L = lengths _ c.record_bytes-at.ensures in
     (L.long, simp (length-take, length-drop) (omega (arith, L.file, L.least)), simp (length-take, length-drop) (omega (arith, L.file, L.most)))
 
-pub slice_bounds-copy_from_slice-count : goal.slice_bounds-copy_from_slice-count
-slice_bounds-copy_from_slice-count c =
+pub slice_bounds-put_bytes-count : goal.slice_bounds-put_bytes-count
+slice_bounds-put_bytes-count c =
     let fits : Fits c.args.file.now c.args.arena.now c.args.control.now = fits-true _ _ _ (sym c.fits.ensures ∙ c.if-not-fits.false) in
     let lengths : (n : ℕ) → n ≡ record_bytes_by c.version_in-v.result → Lengths c.args.file.now c.args.arena.now c.args.control.now n = λ n e. let F = fits in let v : n ≡ record_bytes_by (version_in c.args.file.now) = e ∙ ap record_bytes_by c.version_in-v.ensures in let m = by_most (version_in c.args.file.now) in record { by = v; least = omega (arith, m.0, v); most = omega (arith, m.1, v); file = omega (arith, F.file, v); long = shape-long c.args.arena.now c.args.control.now F.shape } in
     let L = lengths _ c.record_bytes-at.ensures in omega (arith, L.file)
 
-pub copy_from_slice-requires : goal.copy_from_slice-requires
-copy_from_slice-requires c =
+pub put_bytes-requires : goal.put_bytes-requires
+put_bytes-requires c =
     let fits : Fits c.args.file.now c.args.arena.now c.args.control.now = fits-true _ _ _ (sym c.fits.ensures ∙ c.if-not-fits.false) in
     let lengths : (n : ℕ) → n ≡ record_bytes_by c.version_in-v.result → Lengths c.args.file.now c.args.arena.now c.args.control.now n = λ n e. let F = fits in let v : n ≡ record_bytes_by (version_in c.args.file.now) = e ∙ ap record_bytes_by c.version_in-v.ensures in let m = by_most (version_in c.args.file.now) in record { by = v; least = omega (arith, m.0, v); most = omega (arith, m.1, v); file = omega (arith, F.file, v); long = shape-long c.args.arena.now c.args.control.now F.shape } in
     let L = lengths _ c.record_bytes-at.ensures in simp (length-take, length-drop) (omega (arith, L.file))
@@ -70,10 +70,10 @@ pub heap_read-requires : goal.heap_read-requires
 heap_read-requires c =
     let fits : Fits c.args.file.now c.args.arena.now c.args.control.now = fits-true _ _ _ (sym c.fits.ensures ∙ c.if-not-fits.false) in
     let F = fits in
-    (same_shape _ _ _ _ c.copy_from_slice.auto.self c.put_record.auto.control F.shape, sym c.known.ensures ∙ c.if-not-known.false)
+    (same_shape _ _ _ _ c.put_bytes.auto.to c.put_record.auto.control F.shape, sym c.known.ensures ∙ c.if-not-known.false)
 
 pub shape_of-arena : goal.shape_of-arena
-shape_of-arena c = c.heap_read.auto.arena ∙ c.copy_from_slice.auto.self
+shape_of-arena c = c.heap_read.auto.arena ∙ c.put_bytes.auto.to
 
 pub shape_of-control : goal.shape_of-control
 shape_of-control c = c.put_record.auto.control
@@ -88,7 +88,7 @@ returns c =
     let f : List ℕ = s.file.now in
     let n : ℕ = c.record_bytes-at.result in
     let L = lengths n c.record_bytes-at.ensures in
-    read_done f s.arena.now s.control.now c.version_in-v.result (length c.copy_from_slice.new.self) _ _ c.version_in-v.ensures (mark) (known) (fits) c.copy_from_slice.auto.self
-    (take-length c.copy_from_slice.new.self ∙ c.copy_from_slice.ensures.after ∙ drop-whole (9 + n) f ∙ ap (λ (k : ℕ). drop (9 + k) f) L.by)
+    read_done f s.arena.now s.control.now c.version_in-v.result (length c.put_bytes.new.to) _ _ c.version_in-v.ensures (mark) (known) (fits) c.put_bytes.auto.to
+    (take-length c.put_bytes.new.to ∙ c.put_bytes.ensures ∙ drop-whole (9 + n) f ∙ ap (λ (k : ℕ). drop (9 + k) f) L.by)
     (c.put_record.ensures ∙ record-put f n (9 + n - 9) L.by (omega (arith, L.file)) (omega arith))
     c.heap_read.ensures

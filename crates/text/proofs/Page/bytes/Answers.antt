@@ -6,7 +6,7 @@ use Rattle.text.proofs.Page.bytes.Goals as goal
 pub returns-clause-adds : goal.returns-clause-adds
 returns-clause-adds c =
     let page = c.args.self.now in
-    let copied = c.copy_from_slice.ensures.after in
+    let copied = c.put_bytes.ensures in
     record {
       within = omega arith;
       written = take-put_mid _ _ _ _ _ (ap (λ t. page.at + length t) (sym copied)) (omega arith) ∙ ap (λ t. take page.at page.out.now ++ t) copied;
